@@ -1,0 +1,16 @@
+pub mod Bytes
+pub mod Limits
+pub mod Texts
+pub mod Numbers
+pub mod Ids
+pub mod Settings
+pub mod Refusals
+pub mod Version
+pub mod State
+pub mod Updates
+pub mod Edits
+pub mod Start
+pub mod Build
+pub mod Replay
+pub mod Law
+pub mod Cases
