@@ -1,0 +1,2 @@
+pub mod dialects;
+pub mod time;

@@ -1,0 +1,4 @@
+pub mod Entries
+pub mod Fronts
+pub mod Meanings
+pub mod Places

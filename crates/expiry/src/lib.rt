@@ -1,0 +1,2 @@
+pub mod expire;
+pub mod log;

@@ -1,0 +1,9 @@
+pub mod Keys
+pub mod Puts
+pub mod Places
+pub mod Tested
+pub mod Effects
+pub mod Moves
+pub mod Stored
+pub mod Rests
+pub mod Decided

@@ -1,0 +1,10 @@
+use mathlib.Core.Path.{_≡_}
+use mathlib.Core.List.{map}
+use lib.ListN.{drop}
+use Rattle.model.specs.Settings.{history-key}
+use Rattle.model.specs.Build.{look-up}
+use Rattle.property.specs.Meaning.{property-of}
+use Rattle.property.proofs.property.Properties.history_size.Given as given
+
+abbrev pub Inv-loop-p : given.InvT-loop-p
+Inv-loop-p l = look-up history-key (map (property-of (l .block)) (drop (l .p-index) (l .items))) ≡ look-up history-key (map (property-of (l .block)) (l .items))

@@ -1,0 +1,4 @@
+pub mod fault;
+pub mod numbered;
+pub mod register;
+pub mod table;

@@ -1,0 +1,3 @@
+pub mod fold;
+pub mod number;
+pub mod settings;

@@ -1,0 +1,3 @@
+pub mod Clips
+pub mod Compared
+pub mod Slashes

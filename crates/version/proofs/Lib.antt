@@ -1,0 +1,4 @@
+pub mod Blank
+pub mod Exits
+pub mod Looped
+pub mod Ordered

@@ -1,0 +1,2 @@
+mod piece;
+pub mod view_version;
