@@ -1,0 +1,14 @@
+pub mod Recording
+pub mod Outcomes
+pub mod Mapped
+pub mod NewIds
+pub mod Edits
+pub mod Location
+pub mod Schemas
+pub mod Starts
+pub mod Settings
+pub mod CurrentIds
+pub mod Foretold
+pub mod NewVersions
+pub mod Builds
+pub mod Chosen
