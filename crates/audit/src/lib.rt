@@ -1,0 +1,3 @@
+pub mod outcome;
+pub mod report;
+pub mod run;

@@ -1,0 +1,3 @@
+pub mod Appends
+pub mod Inverse
+pub mod Progress

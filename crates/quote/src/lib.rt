@@ -1,0 +1,3 @@
+pub mod hex;
+pub mod read;
+pub mod write;
