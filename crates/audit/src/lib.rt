@@ -1,3 +1,5 @@
+#![tactic(auto)]
+
 pub mod outcome;
 pub mod report;
 pub mod run;

@@ -1,2 +1,4 @@
+#![tactic(auto)]
+
 pub mod cursor;
 pub mod fault;

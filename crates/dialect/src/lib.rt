@@ -1,2 +1,4 @@
+#![tactic(auto)]
+
 pub mod dialects;
 pub mod time;

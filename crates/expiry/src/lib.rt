@@ -1,2 +1,4 @@
+#![tactic(auto)]
+
 pub mod expire;
 pub mod log;

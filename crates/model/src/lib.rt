@@ -1,3 +1,5 @@
+#![tactic(auto)]
+
 ghost use Rattle.model.specs.Law.{KeepLaw, LogLaw, LogRoomLaw, ReplayLaw, SameLaw};
 ghost use Rattle.model.specs.Cases.{CasesHold};
 

@@ -1,3 +1,5 @@
+#![tactic(auto)]
+
 pub mod hex;
 pub mod read;
 pub mod write;

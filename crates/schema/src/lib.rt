@@ -1,2 +1,4 @@
+#![tactic(auto)]
+
 pub mod kind;
 pub mod sealed;

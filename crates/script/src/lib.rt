@@ -1,2 +1,4 @@
+#![tactic(auto)]
+
 pub mod read;
 pub mod script;

@@ -1,3 +1,5 @@
+#![tactic(auto)]
+
 pub mod fold;
 pub mod number;
 pub mod settings;

@@ -1,7 +1,7 @@
 -- What == and < of slices of bytes answer, and a test of every element. Assumes nothing.
-use Rattle.std.proofs.Common.{◌≡◌, ℕ, ◌+◌, ◌<◌, Bool, true, false, List, length, get_or, drop, IsSomeAnd, Decides, refl, ◌∙◌, arith}
-use Rattle.std.specs.Ordering.{MatchOrdering, Tested, is_lt, nat_cmp}
-use Rattle.std.specs.Cmp.Lexicographic.{Matches, LexSome}
+use Rattle.std.proofs.Common.{◌≡◌, ℕ, ◌+◌, ◌<◌, Bool, true, false, List, length, get_or, drop, nat_eq, Some, refl, ◌∙◌, arith}
+use Rattle.std.specs.Ordering.{MatchOrdering, is_lt, nat_cmp, is_some_and}
+use Rattle.std.specs.Cmp.Lexicographic.{pointwise, slice_partial_cmp}
 use Rattle.std.proofs.lemmas.Slice.Eq.{slice_eq-Decides, compares_Decides}
 use Rattle.std.proofs.lemmas.List.{at_drop_more}
 use Rattle.std.proofs.lemmas.Cmp.{same_from_slice_cmp_tested}
@@ -9,13 +9,13 @@ use Rattle.std.proofs.lemmas.Bool.Decides.{same_from_decides, nat_tests, Decides
 use Rattle.model.specs.Bytes.{Bytes, same_bytes, before, all}
 
 -- == is the test that goes byte by byte
-pub same_is : (xs ys : Bytes) (r : Bool) → Matches (λ (a b : ℕ) (t : Bool). Decides t (a ≡ b)) xs ys r → r ≡ same_bytes xs ys
+pub same_is : (xs ys : Bytes) (r : Bool) → r ≡ pointwise nat_eq xs ys → r ≡ same_bytes xs ys
 same_is xs ys r m =
     same_from_decides r (same_bytes xs ys) (slice_eq-Decides Decides-eqb xs ys r m)
     (compares_Decides same_bytes (record { empty = refl; shorter = λ _ _. refl; longer = λ _ _. refl; heads = λ _ _ _ _. refl }) xs ys)
 
 -- < is the order of bytes
-pub before_is : (xs ys : Bytes) (r : Bool) → Tested (LexSome (λ x y o. IsSomeAnd o (λ k. MatchOrdering k (x < y) (x ≡ y) (y < x))) xs ys) is_lt r → r ≡ before xs ys
+pub before_is : (xs ys : Bytes) (r : Bool) → r ≡ is_some_and is_lt (slice_partial_cmp (λ x y. Some (nat_cmp x y)) xs ys) → r ≡ before xs ys
 before_is = same_from_slice_cmp_tested nat_cmp is_lt before refl (λ _ _. refl) (λ _ _. refl) (λ x y xs ys o h. grind (arith, nat_tests))
 
 -- a test of every element, one element on

@@ -1,2 +1,4 @@
+#![tactic(auto)]
+
 pub mod bytes;
 pub mod text;

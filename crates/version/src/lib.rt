@@ -1,2 +1,4 @@
+#![tactic(auto)]
+
 mod piece;
 pub mod view_version;

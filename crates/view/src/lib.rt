@@ -1,3 +1,5 @@
+#![tactic(auto)]
+
 pub mod begin;
 pub mod build;
 pub mod current;

@@ -1,3 +1,5 @@
+#![tactic(auto)]
+
 use audit::run::run;
 use std::io::{Read, Write};
 use std::{env, fs};
