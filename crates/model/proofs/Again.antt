@@ -2,7 +2,7 @@
 use Rattle.std.proofs.Common.{◌≡◌, ℕ, Bool, true, false, cond, List, ℤ, Some, None, Ok, Err, Option, Result, sym, refl, ap, ◌∙◌}
 use Rattle.model.specs.Bytes.{Bytes}
 use Rattle.model.specs.Version.{Property, LogEntry, Sameness}
-use Rattle.model.specs.Refusals.{Part, Fault, refuse, refuse_with, refuse_at, then}
+use Rattle.model.specs.Refusals.{Part, Fault, refuse, refuse_with, then}
 use Rattle.model.specs.State.{Text, SchemaIn, VersionIn, State}
 use Rattle.model.specs.Updates.{with_schema_id, with_pending}
 use Rattle.model.specs.Edits.{after_set_location, after_assign_uuid, after_set_properties, after_remove_properties, reuse_or_add_schema, after_add_schema, equal_version, enter, enter_under, reuse_or_add_version, after_add_version}

@@ -7,14 +7,14 @@ use Rattle.std.proofs.ByRecursion.{All-push}
 use Rattle.std.specs.List.{AllByRecursion as All}
 use Rattle.model.specs.Bytes.{Bytes, trimmed, unless_slash, same_list, same_bytes, repeats}
 use Rattle.model.specs.Version.{Property, Version, LogEntry, Schema, Sameness, same_property, dialects, version_ids, schema_ids}
-use Rattle.model.specs.Refusals.{malformed, version_not_held, negative_history_size, limit_reached, Fault, fault, refuse, refuse_with, refuse_at, then, full, over, schemas_part, versions_part, properties_part, builder_part}
+use Rattle.model.specs.Refusals.{version_not_held, Fault, fault, refuse, refuse_with, then, full, over, schemas_part, versions_part, builder_part}
 use Rattle.model.specs.State.{Text, SchemaIn, VersionIn, Edit, Change, State, entered, upgrade_format, set_location, assign_uuid, add_schema, add_version, set_current_version_id, set_current_version, set_properties, remove_properties, uuid_assigned, location_set, schema_added, version_added, current_version_id_set, properties_set, properties_removed}
 use Rattle.model.specs.Updates.{version_with_id, with_schema_id, stored_version, schema_with_id, stored_schema, with_uuid, with_location, with_current, with_schemas, with_versions, with_properties, with_metadata, with_last_schema, with_last_version, with_pending, with_change, recorded}
-use Rattle.model.specs.Edits.{too_early_for, id_or_minus_one, after_set_location, after_assign_uuid, after_set_properties, after_remove_properties, reuse_or_add_schema, after_add_schema, equal_version, read_all, out_of_order, negative_size, put_properties, without, properties_after, properties_shrink_to, with_next_version_id, as_recorded, enter, enter_under, reuse_or_add_version, after_add_version, id_as_recorded, log_entry, set_current_to, after_set_current, under_last_added_schema, edit}
+use Rattle.model.specs.Edits.{too_early_for, id_or_minus_one, after_set_location, after_assign_uuid, after_set_properties, after_remove_properties, reuse_or_add_schema, after_add_schema, equal_version, read_all, without, properties_after, properties_shrink_to, with_next_version_id, as_recorded, enter, enter_under, reuse_or_add_version, after_add_version, id_as_recorded, log_entry, set_current_to, after_set_current, under_last_added_schema, edit}
 use Rattle.model.specs.Build.{additions, state_or, Timed, run}
 use Rattle.model.specs.Replay.{apply_all, at_index, edit_of}
 use Rattle.model.specs.Law.{Ascending, Event, was_entered, was_reused, was_chosen, additions_in, event_id, reused_or_entered, add_event, events, if_accepted, events_of}
-use Rattle.model.proofs.Basics.{same_true, ok_not_err, ok_is, refuse_ok, refuse_at_ok, refuse_with_ok, is_number_true, named_as_is}
+use Rattle.model.proofs.Basics.{same_true, ok_not_err, ok_is, refuse_ok, refuse_with_ok, is_number_true, named_as_is}
 use Rattle.model.proofs.Events.{last_after, additions_append}
 use Rattle.model.proofs.Step.{Step, stay, follow}
 use Rattle.model.proofs.Again.{through, relocated_again, assigned_again, set_again, removed_again, schema_again, version_again}

@@ -1,7 +1,6 @@
 -- Runs of edits, and build: the lost dialects, the kept versions, the log. Assumes nothing.
-use Rattle.std.specs.Prelude.{ℕ, suc, ◌-◌, max, Bool, false, cond, not, ◌&&◌, ◌||◌, List, [], ◌∷◌, ◌++◌, length, ℤ, Some, None, Ok, Err, codes, filter, Option, Result, ◌==◌, int_lt, nat_lt}
+use Rattle.std.specs.Prelude.{ℕ, suc, ◌-◌, max, Bool, false, cond, not, ◌&&◌, ◌||◌, List, [], ◌∷◌, ◌++◌, length, ℤ, Some, None, Ok, Err, filter, Option, Result, ◌==◌, int_lt, nat_lt}
 use Rattle.model.specs.Bytes.{Bytes, same_bytes, any, all}
-use Rattle.model.specs.Numbers.{unsigned_reading}
 use Rattle.model.specs.Version.{Property, Content, Version, LogEntry, Sameness, dialects, version_ids, schema_ids}
 use Rattle.model.specs.Refusals.{no_current_version, schema_not_held, lost_dialect, limit_reached, Fault, fault, refuse, over, versions_part, log_part, builder_part}
 use Rattle.model.specs.State.{Edit, Change, Metadata, State, uuid_assigned, location_set, schema_added, version_added, current_version_id_set, properties_set, properties_removed}

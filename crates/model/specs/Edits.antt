@@ -1,5 +1,5 @@
 -- The nine edits: what each refuses, in which order, and what it changes and records. Assumes nothing.
-use Rattle.std.specs.Prelude.{ℕ, suc, Bool, false, cond, not, ◌&&◌, List, [], ◌∷◌, ◌++◌, length, ℤ, pos, ◌+ℤ◌, Some, None, Ok, Err, codes, filter, Option, Result, ◌==◌, int_lt}
+use Rattle.std.specs.Prelude.{ℕ, suc, Bool, false, cond, not, ◌&&◌, List, [], ◌∷◌, ◌++◌, length, ℤ, pos, ◌+ℤ◌, Some, None, Ok, Err, filter, Option, Result, ◌==◌, int_lt}
 use Rattle.model.specs.Bytes.{Bytes, same_list, same_bytes, before, any, repeats, trimmed}
 use Rattle.model.specs.Numbers.{signed_reading, below_zero}
 use Rattle.model.specs.Version.{Property, Content, Version, LogEntry, Sameness, same_property, same_content, dialects, version_ids, schema_ids}

@@ -1,7 +1,7 @@
 -- The two readings of a number, integers compared, and truthy values. Assumes nothing.
-use Rattle.std.specs.Prelude.{ℕ, ◌+◌, ◌-◌, ◌*◌, ◌^◌, Bool, false, cond, not, ◌&&◌, [], ◌∷◌, ℤ, pos, negsuc, neg_ℤ, Some, None, codes, Option, ◌==◌, nat_le}
+use Rattle.std.specs.Prelude.{ℕ, ◌+◌, ◌-◌, ◌*◌, ◌^◌, Bool, false, cond, not, ◌&&◌, [], ◌∷◌, ℤ, pos, neg_ℤ, Some, None, Option, ◌==◌, nat_le}
 use Rattle.std.specs.Int.Signed.{non_neg}
-use Rattle.model.specs.Bytes.{Bytes, folded, same_bytes, any}
+use Rattle.model.specs.Bytes.{Bytes}
 
 -- the number that these digits (48 to 57) make after the digits of n
 abbrev pub digits : ℕ → Bytes → Option ℕ

@@ -1,8 +1,7 @@
 -- Versions, schemas and log entries, when two are the same, and how ids are given. Assumes nothing.
-use Rattle.std.specs.Prelude.{Bool, true, false, cond, ◌&&◌, List, [], ◌∷◌, map, ℤ, pos, negsuc, ◌+ℤ◌, Some, None, filter, Option}
-use Rattle.std.specs.Int.{int_max, int_min}
+use Rattle.std.specs.Prelude.{Bool, true, false, ◌&&◌, List, map, ℤ, Some, None, Option}
 use Rattle.model.specs.Bytes.{Bytes, same_list, same_bytes, folded}
-use Rattle.model.specs.Ids.{same_number, is_id}
+use Rattle.model.specs.Ids.{same_number}
 
 -- an entry of a version's summary, or a property of the view
 pub record Property : Type 0 where

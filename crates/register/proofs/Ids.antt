@@ -1,6 +1,5 @@
 -- Ids found, and the lowest and the highest id, one more element at a time. Assumes nothing.
 use Rattle.std.proofs.Common.{◌≡◌, ℕ, ◌+◌, ◌<◌, Bool, true, false, cond, List, [], ◌∷◌, ◌++◌, map, length, get_or, take, drop, ℤ, is_some, Some, None, filter, Option, sym, refl, ap, ◌∙◌, inl, inr, append-nil, arith}
-use Rattle.std.specs.Int.{int_min, int_max}
 use Rattle.std.proofs.lemmas.Int.{ints, clamps}
 use Rattle.std.proofs.lemmas.List.{map_more, map_push, at_drop_more, take_more}
 use Rattle.std.proofs.lemmas.Bool.{cases_Bool}

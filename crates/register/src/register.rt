@@ -54,7 +54,7 @@ fn greatest(id: i32, best: Option<i32>) -> i32
 
 // The lowest id of those that are the same as `thing`.
 fn lowest_like<T: Numbered>(items: &[T], thing: &T, block: &[u8]) -> Option<i32>
-    ensures { result ≡ same_id T.Identified T.Numbered block.now thing.now items.now }
+    ensures { result ≡ same_id T.Identified T.Numbered.own block.now thing.now items.now }
 {
     let mut best = None;
     for x in items {
@@ -89,14 +89,14 @@ fn id_after(first: i32, highest: Option<i32>) -> Option<i32>
 impl<'a, T: Numbered> Register<'a, T> {
     // The lowest id held with the same content as `thing`.
     pub fn lowest_same(&self, thing: &T, block: &[u8]) -> Option<i32>
-        ensures { result ≡ same_id T.Identified T.Numbered block.now thing.now (held_in self.now.table) }
+        ensures { result ≡ same_id T.Identified T.Numbered.own block.now thing.now (held_in self.now.table) }
     {
         lowest_like(self.table.items(), thing, block)
     }
 
     // The id that a new thing gets.
     pub fn next_id(&self) -> Result<i32, RegisterFault>
-        ensures { result ≡ new_id T.Identified T.Numbered self.now.table }
+        ensures { result ≡ new_id T.Identified T.Numbered.own self.now.table }
     {
         let Some(id) = id_after(T::initial_id(), highest_of(self.table.items())) else {
             return Err(RegisterFault::NoIdLeft);
@@ -117,7 +117,7 @@ impl<'a, T: Numbered> Register<'a, T> {
 
     // The lowest id held with the same content, or else that of a copy under a new id, which it then holds.
     pub fn enter(&mut self, thing: T, block: &[u8]) -> Result<i32, RegisterFault>
-        ensures { (result, self.new) ≡ entered T.Identified T.Numbered block.now thing self.old }
+        ensures { (result, self.new) ≡ entered T.Identified T.Numbered.own block.now thing self.old }
     {
         if let Some(id) = self.lowest_same(&thing, block) {
             return Ok(id);

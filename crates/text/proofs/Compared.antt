@@ -1,6 +1,6 @@
 -- What == and < of slices of bytes answer, and a test of every element. Assumes nothing.
 use Rattle.std.proofs.Common.{◌≡◌, ℕ, ◌+◌, ◌<◌, Bool, true, false, List, length, get_or, drop, nat_eq, Some, refl, ◌∙◌, arith}
-use Rattle.std.specs.Ordering.{MatchOrdering, is_lt, nat_cmp, is_some_and}
+use Rattle.std.specs.Ordering.{is_lt, nat_cmp, is_some_and}
 use Rattle.std.specs.Cmp.Lexicographic.{pointwise, slice_partial_cmp}
 use Rattle.std.proofs.lemmas.Slice.Eq.{slice_eq-Decides, compares_Decides}
 use Rattle.std.proofs.lemmas.List.{at_drop_more}

@@ -1,5 +1,5 @@
-use Rattle.std.proofs.Common.{◌≡◌, map, drop}
-use Rattle.model.specs.Ids.{find, holds}
+use Rattle.std.proofs.Common.{◌≡◌, drop}
+use Rattle.model.specs.Ids.{find}
 use Rattle.register.proofs.register.find.Given as goal
 
 abbrev pub invariant-loop-x : goal.invariant-loop-x

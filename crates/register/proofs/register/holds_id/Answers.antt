@@ -6,6 +6,6 @@ use Rattle.register.proofs.register.holds_id.Goals as goal
 
 pub returns : goal.returns
 returns g c =
-    c.is-some.ensures ∙ (ap is_some c.find.ensures
+    c.is_some.ensures ∙ (ap is_some c.find.ensures
     ∙ (holds_found g.T.Identified.named (to_z w32 (of_z w32 c.args.id)) c.args.items.now
     ∙ ap (λ k. holds k (map g.T.Identified.named c.args.items.now)) (to_z-of_z w32 c.args.id c.ranges.id)))

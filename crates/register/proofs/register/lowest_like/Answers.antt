@@ -4,16 +4,16 @@ use Rattle.std.proofs.lemmas.List.{take_all}
 use Rattle.register.specs.Registers.{same_id}
 use Rattle.register.proofs.Ids.{lowest_step, lowest_skip}
 use Rattle.register.proofs.register.lowest_like.Goals as goal
-use Rattle.register.proofs.register.lowest_like.Goals.{then_same, else_same}
+use Rattle.register.proofs.register.lowest_like.Goals.{then-same, else-same}
 
 pub loop-x-preserved : goal.loop-x-preserved
 loop-x-preserved g c =
     elim c.if-same.branch [
-      | then_same w ↦ w.best-is ∙ (ap Some (to_z-of_z w32 w.least.result (search rules))
+      | then-same w ↦ w.best-is ∙ (ap Some (to_z-of_z w32 w.least.result (search rules))
           ∙ lowest_step g.T.Identified.named c.args.items.now c.loop-x.x-index c.loop-x-test.true c.x-item.is
           (λ t. g.T.Numbered.alike (g.T.Numbered.content c.args.block.now t) (g.T.Numbered.content c.args.block.now c.args.thing.now)) c.loop-x.invariant
           (sym c.same.ensures ∙ w.if-same.true) (to_z-of_z w32 w.id.result (search rules) ∙ w.id.ensures) w.least.ensures)
-      | else_same w ↦ w.best-is ∙
+      | else-same w ↦ w.best-is ∙
           lowest_skip g.T.Identified.named c.args.items.now c.loop-x.x-index c.loop-x-test.true c.x-item.is
           (λ t. g.T.Numbered.alike (g.T.Numbered.content c.args.block.now t) (g.T.Numbered.content c.args.block.now c.args.thing.now)) c.loop-x.invariant
           (sym c.same.ensures ∙ w.if-same.false)
