@@ -1,6 +1,6 @@
 -- What passes a test, moved to the front of a list in place. Assumes nothing.
 use Rattle.std.proofs.Common.{◌≡◌, ℕ, ◌+◌, ◌-◌, ◌<◌, ◌≤◌, min, Bool, true, false, cond, List, [], ◌∷◌, ◌++◌, map, length, get_or, take, drop, set, filter, sym, refl, ap, ◌∙◌, ap₂, inl, inr, append_assoc, append-nil, arith}
-use Rattle.std.specs.List.{AllByRecursion as All}
+use Rattle.std.specs.List.{AllByRecursion}
 use Rattle.std.proofs.lemmas.List.{length_push, get_or-append_right, get_or-drop, drop_more, set_at, take_all}
 use Rattle.std.proofs.lemmas.List.Elements.{filter_more}
 use Rattle.std.proofs.lemmas.Bool.{cases_lt}
@@ -48,6 +48,6 @@ take_up_to n i xs e =
     ]
 
 -- tests that agree keep the same
-pub kept_by_same : {A : Type 0} (p q : A → Bool) (xs : List A) → All (λ x. p x ≡ q x) xs → filter p xs ≡ filter q xs
+pub kept_by_same : {A : Type 0} (p q : A → Bool) (xs : List A) → AllByRecursion (λ x. p x ≡ q x) xs → filter p xs ≡ filter q xs
 kept_by_same p q [] a = refl
 kept_by_same p q (x ∷ xs) a = ap₂ (λ b l. cond b (x ∷ l) l) a.0 (kept_by_same p q xs a.1)

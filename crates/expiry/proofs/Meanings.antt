@@ -1,7 +1,7 @@
 -- What stays by the ids is what the rule on versions says. Assumes nothing.
 use Rattle.std.proofs.Common.{◌≡◌, ℕ, ◌-◌, ◌≤◌, Bool, true, false, cond, not, ◌||◌, eqb, ltb, List, [], ◌∷◌, ◌++◌, map, length, drop, ℤ, filter, sym, refl, ap, ◌∙◌, ap₂, arith}
 use lib.Signed.{lt_z}
-use Rattle.std.specs.List.{AllByRecursion as All}
+use Rattle.std.specs.List.{AllByRecursion}
 use Rattle.std.proofs.lemmas.List.{length-map, length-append, length-drop, take_at, length-take}
 use Rattle.std.proofs.lemmas.List.Filters.{length-filter_both}
 use Rattle.model.specs.Version.{Version, version_ids}
@@ -12,7 +12,7 @@ use Rattle.register.specs.declared.table.Table.{Table}
 use Rattle.expiry.specs.Expiry.{higher_than, places_for, id_stays, unexpired_by, holding}
 use Rattle.expiry.proofs.Fronts.{kept_by_same}
 
-each : {A : Type 0} {P : A → Type 0} → ((x : A) → P x) → (xs : List A) → All P xs
+each : {A : Type 0} {P : A → Type 0} → ((x : A) → P x) → (xs : List A) → AllByRecursion P xs
 each h [] = tt
 each h (x ∷ xs) = (h x, each h xs)
 

@@ -1,7 +1,7 @@
 -- Counting the higher ids, the lowest that has a place, and what is kept by it. Assumes nothing.
 use Rattle.std.proofs.Common.{◌≡◌, ℕ, ◌+◌, ◌-◌, ◌<◌, ◌≤◌, min, Bool, true, false, cond, ◌||◌, eqb, ltb, ◌⊎◌, List, [], ◌∷◌, ◌++◌, map, length, get_or, take, ℤ, Some, None, filter, Option, sym, refl, ap, ◌∙◌, subst, ap₂, inl, inr, arith, length-append}
 use lib.Signed.{lt_z, le_z}
-use Rattle.std.specs.List.{AllByRecursion as All}
+use Rattle.std.specs.List.{AllByRecursion}
 use Rattle.std.proofs.lemmas.List.{map_more}
 use Rattle.std.proofs.lemmas.List.Elements.{filter-append}
 use Rattle.std.proofs.ByRecursion.{All-weaker}
@@ -103,14 +103,14 @@ module _ {A : Type 0} (f : A → ℤ) (p : A → Bool) (rises : (x y : A) → le
       go true = at_least_next (f x) (lowest_id_where f p xs) i h
       go false = h
 
-  lowest_complete : (xs : List A) → All (λ v. p v ≡ true → at_least (lowest_id_where f p xs) (f v) ≡ true) xs
+  lowest_complete : (xs : List A) → AllByRecursion (λ v. p v ≡ true → at_least (lowest_id_where f p xs) (f v) ≡ true) xs
   lowest_complete [] = tt
   lowest_complete (x ∷ xs) = (
     (λ e. subst (λ b. at_least (lowest (map f (cond b (x ∷ filter p xs) (filter p xs)))) (f x) ≡ true) (sym e) (at_least_first (f x) (lowest_id_where f p xs))),
     All-weaker (λ v. p v ≡ true → at_least (lowest_id_where f p xs) (f v) ≡ true) (λ v. p v ≡ true → at_least (lowest_id_where f p (x ∷ xs)) (f v) ≡ true) (λ v g e. lowest_next x xs (f v) (g e)) xs (lowest_complete xs),
   )
 
-  pub lowest_decides : (xs : List A) → All (λ v. at_least (lowest_id_where f p xs) (f v) ≡ p v) xs
+  pub lowest_decides : (xs : List A) → AllByRecursion (λ v. at_least (lowest_id_where f p xs) (f v) ≡ p v) xs
   lowest_decides xs =
       All-weaker (λ v. p v ≡ true → at_least (lowest_id_where f p xs) (f v) ≡ true) (λ v. at_least (lowest_id_where f p xs) (f v) ≡ p v)
       (λ v g. same_from_decides {P = p v ≡ true} (at_least (lowest_id_where f p xs) (f v)) (p v) (lowest_sound xs v, g) ((λ e. e), (λ e. e))) xs (lowest_complete xs)

@@ -1,7 +1,7 @@
 -- Which versions expire, by their ids, and the table that holds the others. Assumes nothing.
 use Rattle.std.specs.Prelude.{◌≡◌, ℕ, ◌-◌, Bool, false, cond, ◌||◌, List, ◌++◌, map, length, drop, ℤ, Some, None, filter, Option, ◌==◌, int_le, int_lt, nat_lt}
 use denote.Ref.{at_last}
-use Rattle.std.specs.List.{AllByRecursion as All}
+use Rattle.std.specs.List.{AllByRecursion}
 use Rattle.model.specs.Ids.{same_number, lowest_id_where}
 use Rattle.register.specs.declared.table.Table.{Table}
 use Rattle.expiry.specs.declared.expire.Kept.{Kept}
@@ -38,7 +38,7 @@ module _ {X : Type 0} (id_of : X → ℤ) where
 
   -- of each thing in the list: it is kept exactly if it stays
   abbrev pub KeepsWhatStays : Kept → List X → ℤ → ℕ → ℕ → Type 0
-  KeepsWhatStays k xs current n added = All (λ x. keeps_id k (id_of x) ≡ id_stays (map id_of xs) current n added (id_of x)) xs
+  KeepsWhatStays k xs current n added = AllByRecursion (λ x. keeps_id k (id_of x) ≡ id_stays (map id_of xs) current n added (id_of x)) xs
 
   -- the lowest of their ids that have a place
   abbrev pub lowest_placed : List X → ℕ → Option ℤ

@@ -1,7 +1,7 @@
 -- Facts on tests, results and lists that the laws share. Assumes nothing.
 use Rattle.std.proofs.Common.{◌≡◌, ℕ, Bool, true, false, cond, ◌||◌, List, [], ◌∷◌, ℤ, pos, negsuc, Some, None, Ok, Err, Option, Result, sym, refl, ap, ◌∙◌, subst, inl, inr, arith}
 use Rattle.std.proofs.lemmas.Bool.{eqb-true, eq-eqb, true≢false, or_parts}
-use Rattle.std.specs.List.{AllByRecursion as All}
+use Rattle.std.specs.List.{AllByRecursion}
 use Rattle.model.specs.Version.{Version, version_ids}
 use Rattle.model.specs.Refusals.{Part, Fault, refuse, refuse_with, refuse_at}
 use Rattle.model.specs.Law.{Member}
@@ -44,7 +44,7 @@ holds_none i (w ∷ vs) e v (inl q) p =
     true≢false (sym (same_eq w.id i (ap (λ (x : Version). x.id) q ∙ p)) ∙ (or_parts (same_number w.id i) (holds i (version_ids vs)) e).0)
 holds_none i (w ∷ vs) e v (inr o) p = holds_none i vs (or_parts (same_number w.id i) (holds i (version_ids vs)) e).1 v o p
 
-pub all_one : {A : Type 0} (P : A → Type 0) (xs : List A) (x : A) → All P xs → Member xs x → P x
+pub all_one : {A : Type 0} (P : A → Type 0) (xs : List A) (x : A) → AllByRecursion P xs → Member xs x → P x
 all_one P [] x a o = absurd o
 all_one P (y ∷ ys) x a (inl e) = subst P e a.0
 all_one P (y ∷ ys) x a (inr o) = all_one P ys x a.1 o

@@ -1,6 +1,6 @@
 -- How many of a list pass a test, and how many versions stand above an id. Assumes nothing.
 use Rattle.std.proofs.Common.{◌≡◌, ℕ, ◌+◌, ◌<◌, ◌≤◌, Bool, true, false, cond, not, List, [], ◌∷◌, length, ℤ, filter, sym, refl, ap, ◌∙◌, subst, inl, inr, arith}
-use Rattle.std.specs.List.{AllByRecursion as All}
+use Rattle.std.specs.List.{AllByRecursion}
 use Rattle.model.specs.Version.{Version}
 use Rattle.model.specs.Law.{Member}
 use Rattle.model.proofs.Basics.{same_true, same_eq, all_one}
@@ -60,7 +60,7 @@ module _ {A : Type 0} (p q : A → Bool) (weaker : (x : A) → p x ≡ true → 
 -- no two have one id
 abbrev pub Distinct : List Version → Type 0
 Distinct [] = Unit {0}
-Distinct (v ∷ vs) = All (λ w. w.id ≡ v.id → ⊥) vs × Distinct vs
+Distinct (v ∷ vs) = AllByRecursion (λ w. w.id ≡ v.id → ⊥) vs × Distinct vs
 
 abbrev without_id : ℤ → List Version → List Version
 without_id i = filter (λ w. not (same_number w.id i))

@@ -4,7 +4,7 @@ use lib.Signed.{le_z}
 use Rattle.std.proofs.lemmas.Int.{ints}
 use Rattle.std.proofs.lemmas.Bool.{and_parts, leb-false}
 use Rattle.std.proofs.ByRecursion.{All-weaker}
-use Rattle.std.specs.List.{AllByRecursion as All}
+use Rattle.std.specs.List.{AllByRecursion}
 use Rattle.model.specs.Bytes.{Bytes}
 use Rattle.model.specs.Version.{Property, Version, version_ids, schema_ids}
 use Rattle.model.specs.Refusals.{malformed, Part, Fault, then, over, schemas_part, versions_part, log_part}
@@ -45,12 +45,12 @@ not_negative i e = let h = (and_parts (le_z (pos 0) i) (le_z i highest_id) e).0 
 
 -- what the tests of a list of records leave
 record Passed (last : Option ℤ) (ts : List TestedRecord) : Type 0 where
-  clear : All (λ t. t.verdict ≡ None) ts
-  ranged : All (λ t. pos 0 ≤ℤ t.id) ts
-  above : All (λ t. Above last t.id) ts
+  clear : AllByRecursion (λ t. t.verdict ≡ None) ts
+  ranged : AllByRecursion (λ t. pos 0 ≤ℤ t.id) ts
+  above : AllByRecursion (λ t. Above last t.id) ts
   rising : Ascending (map (λ t. t.id) ts)
 
-ids_above : (i : ℤ) (ts : List TestedRecord) → All (λ t. i <ℤ t.id) ts → All (λ j. i <ℤ j) (map (λ t. t.id) ts)
+ids_above : (i : ℤ) (ts : List TestedRecord) → AllByRecursion (λ t. i <ℤ t.id) ts → AllByRecursion (λ j. i <ℤ j) (map (λ t. t.id) ts)
 ids_above i [] a = tt
 ids_above i (t ∷ ts) a = (a.0, ids_above i ts a.1)
 
@@ -79,7 +79,7 @@ passed part n last (t ∷ ts) e = by_verdict t.verdict refl e (passed part (suc 
     by_verdict (Some m) v e' more = not_none e'
     by_verdict None v e' more = by_place (in_range t.id && rises last t.id) refl v e' more
 
-schema_ranges : {C : Type 0} (rs : List (SchemaIn C)) → All (λ t. pos 0 ≤ℤ t.id) (schema_tests rs) → All (λ i. pos 0 ≤ℤ i) (schema_ids (map stored_schema rs))
+schema_ranges : {C : Type 0} (rs : List (SchemaIn C)) → AllByRecursion (λ t. pos 0 ≤ℤ t.id) (schema_tests rs) → AllByRecursion (λ i. pos 0 ≤ℤ i) (schema_ids (map stored_schema rs))
 schema_ranges [] a = tt
 schema_ranges (r ∷ rs) a = (a.0, schema_ranges rs a.1)
 
@@ -92,7 +92,7 @@ named_well (Some n) i e = not_none e
 named_well None (pos n) e = refl
 named_well None (negsuc n) e = not_none e
 
-versions_named : (rs : List VersionIn) → All (λ t. t.verdict ≡ None) (version_tests rs) → All (λ v. same_number v.content.schema_id last_added ≡ false) (map stored_version rs)
+versions_named : (rs : List VersionIn) → AllByRecursion (λ t. t.verdict ≡ None) (version_tests rs) → AllByRecursion (λ v. same_number v.content.schema_id last_added ≡ false) (map stored_version rs)
 versions_named [] a = tt
 versions_named (r ∷ rs) a = (named_well r.verdict r.content.schema_id a.0, versions_named rs a.1)
 

@@ -2,7 +2,7 @@
 use Rattle.std.proofs.Common.{◌≡◌, Bool, true, false, cond, not, ◌⊎◌, List, [], ◌∷◌, ◌++◌, ℤ, ◌<ℤ◌, filter, sym, refl, ap, ◌∙◌, subst, inl, inr}
 use Rattle.std.proofs.lemmas.Bool.{true≢false}
 use Rattle.std.proofs.ByRecursion.{All-push}
-use Rattle.std.specs.List.{AllByRecursion as All}
+use Rattle.std.specs.List.{AllByRecursion}
 use Rattle.model.specs.Version.{Version, version_ids}
 use Rattle.model.specs.Law.{Ascending, Member, Descending, Ranked}
 use Rattle.model.proofs.Basics.{same_true, same_eq, all_one}
@@ -16,15 +16,15 @@ downward [] = []
 downward (v ∷ vs) = downward vs ++ v ∷ []
 
 module _ (P : ℤ → Type 0) where
-  all_kept : (test : Version → Bool) (vs : List Version) → All P (version_ids vs) → All P (version_ids (filter test vs))
+  all_kept : (test : Version → Bool) (vs : List Version) → AllByRecursion P (version_ids vs) → AllByRecursion P (version_ids (filter test vs))
   all_kept test [] a = tt
   all_kept test (v ∷ vs) a = go (test v) (all_kept test vs a.1)
     where
-      go : (b : Bool) → All P (version_ids (filter test vs)) → All P (version_ids (cond b (v ∷ filter test vs) (filter test vs)))
+      go : (b : Bool) → AllByRecursion P (version_ids (filter test vs)) → AllByRecursion P (version_ids (cond b (v ∷ filter test vs) (filter test vs)))
       go true r = (a.0, r)
       go false r = r
 
-  all_down : (vs : List Version) → All P (version_ids vs) → All (λ v. P v.id) (downward vs)
+  all_down : (vs : List Version) → AllByRecursion P (version_ids vs) → AllByRecursion (λ v. P v.id) (downward vs)
   all_down [] a = tt
   all_down (v ∷ vs) a = All-push (λ w. P w.id) (downward vs) v (all_down vs a.1) a.0
 
@@ -32,11 +32,11 @@ pub kept_rising : (test : Version → Bool) (vs : List Version) → Ascending (v
 kept_rising test [] r = tt
 kept_rising test (v ∷ vs) r = go (test v) (all_kept (λ j. v.id <ℤ j) test vs r.0) (kept_rising test vs r.1)
   where
-    go : (b : Bool) → All (λ j. v.id <ℤ j) (version_ids (filter test vs)) → Ascending (version_ids (filter test vs)) → Ascending (version_ids (cond b (v ∷ filter test vs) (filter test vs)))
+    go : (b : Bool) → AllByRecursion (λ j. v.id <ℤ j) (version_ids (filter test vs)) → Ascending (version_ids (filter test vs)) → Ascending (version_ids (cond b (v ∷ filter test vs) (filter test vs)))
     go true a k = (a, k)
     go false a k = k
 
-falling_push : (vs : List Version) (v : Version) → Descending vs → All (λ w. v.id <ℤ w.id) vs → Descending (vs ++ v ∷ [])
+falling_push : (vs : List Version) (v : Version) → Descending vs → AllByRecursion (λ w. v.id <ℤ w.id) vs → Descending (vs ++ v ∷ [])
 falling_push [] v f a = (tt, tt)
 falling_push (w ∷ vs) v f a = (All-push (λ x. x.id <ℤ w.id) vs v f.0 a.0, falling_push vs v f.1 a.1)
 
@@ -102,7 +102,7 @@ ranking vs current rise first there is_current = (
     other : Version → Bool
     other v = not (same_number v.id current)
 
-    none_current : (ws : List Version) → ((v : Version) → Member ws v → other v ≡ true) → All (λ v. v.id ≡ current → ⊥) ws
+    none_current : (ws : List Version) → ((v : Version) → Member ws v → other v ≡ true) → AllByRecursion (λ v. v.id ≡ current → ⊥) ws
     none_current [] h = tt
     none_current (w ∷ ws) h = ((λ e. true≢false (sym (h w (inl refl)) ∙ ap not (same_eq w.id current e))), none_current ws (λ v o. h v (inr o)))
 

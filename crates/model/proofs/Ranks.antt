@@ -4,7 +4,7 @@ use lib.Signed.{lt_z}
 use Rattle.std.proofs.lemmas.Bool.{cases_lt, lt-ltb, le-ltb, le-leb, lt-leb, ltb-true}
 use Rattle.std.proofs.lemmas.Int.{ints}
 use Rattle.std.proofs.ByRecursion.{All-weaker}
-use Rattle.std.specs.List.{AllByRecursion as All}
+use Rattle.std.specs.List.{AllByRecursion}
 use Rattle.model.specs.Version.{Version, version_ids}
 use Rattle.model.specs.Build.{higher, places, stays, unexpired}
 use Rattle.model.specs.Law.{Ascending, Member, Descending, Ranked, ranks_kept}
@@ -36,7 +36,7 @@ one_way i j n = go (lt_z i j) refl
         go₂ true e₂ = inr (above_from j i e₂)
         go₂ false e₂ = absurd (n (grind (arith, ints)))
 
-none_above : (vs : List Version) (i : ℤ) → All (λ w. w.id <ℤ i) vs → higher vs i ≡ 0
+none_above : (vs : List Version) (i : ℤ) → AllByRecursion (λ w. w.id <ℤ i) vs → higher vs i ≡ 0
 none_above [] i a = refl
 none_above (w ∷ vs) i a =
     count_cons (λ x. lt_z i x.id) w vs ∙ ap₂ (λ b n. cond {A = ℕ} b 1 0 + n) (not_above i w.id a.0) (none_above vs i a.1)
@@ -55,7 +55,7 @@ place zero (w ∷ vs) v f o = (λ x. absurd x, λ h. absurd (omega arith))
 place (suc n) (w ∷ vs) v f (inl e) =
     let i : w.id ≡ v.id = ap (λ (x : Version). x.id) e in
     let a : higher (w ∷ vs) v.id ≡ 0 + higher vs v.id = one_more_above w vs v.id false (subst (λ j. lt_z v.id j ≡ false) (sym i) (not_above_self v.id)) in
-    let b : higher vs v.id ≡ 0 = none_above vs v.id (subst (λ j. All (λ x. x.id <ℤ j) vs) i f.0) in
+    let b : higher vs v.id ≡ 0 = none_above vs v.id (subst (λ j. AllByRecursion (λ x. x.id <ℤ j) vs) i f.0) in
     (λ x. omega arith, λ h. inl e)
 place (suc n) (w ∷ vs) v f (inr o) =
     let lower : v.id <ℤ w.id = all_one (λ x. x.id <ℤ w.id) vs v f.0 o in
@@ -67,7 +67,7 @@ pub rising_distinct : (vs : List Version) → Ascending (version_ids vs) → Dis
 rising_distinct [] r = tt
 rising_distinct (v ∷ vs) r = (all_ids vs r.0, rising_distinct vs r.1)
   where
-    all_ids : (ws : List Version) → All (λ j. v.id <ℤ j) (version_ids ws) → All (λ w. w.id ≡ v.id → ⊥) ws
+    all_ids : (ws : List Version) → AllByRecursion (λ j. v.id <ℤ j) (version_ids ws) → AllByRecursion (λ w. w.id ≡ v.id → ⊥) ws
     all_ids [] a = tt
     all_ids (w ∷ ws) a = ((λ e. let h = a.0 in omega (arith, ints)), all_ids ws a.1)
 
@@ -107,10 +107,10 @@ above_both : (i j : ℤ) → i <ℤ j → (x : Version) → lt_z j x.id ≡ true
 above_both i j h x e = let k = above_from j x.id e in grind (arith, ints)
 
 module _ (vs : List Version) (current : ℤ) (first : Version) (others : List Version) (rise : Ascending (version_ids vs)) (is_current : first.id ≡ current)
-    (others_not : All (λ v. v.id ≡ current → ⊥) others) (fall : Descending others) (from : (v : Version) → Member vs v → Member (first ∷ others) v)
+    (others_not : AllByRecursion (λ v. v.id ≡ current → ⊥) others) (fall : Descending others) (from : (v : Version) → Member vs v → Member (first ∷ others) v)
     (to : (v : Version) → Member (first ∷ others) v → Member vs v) where
   ranks_distinct : Distinct (first ∷ others)
-  ranks_distinct = (subst (λ i. All (λ v. v.id ≡ i → ⊥) others) (sym is_current) others_not, falling_distinct others fall)
+  ranks_distinct = (subst (λ i. AllByRecursion (λ v. v.id ≡ i → ⊥) others) (sym is_current) others_not, falling_distinct others fall)
 
   same_above : (i : ℤ) → higher vs i ≡ higher (first ∷ others) i
   same_above i =

@@ -3,7 +3,7 @@ use Rattle.std.proofs.Common.{◌≡◌, ℕ, Bool, true, false, ◌||◌, List,
 use Rattle.std.proofs.lemmas.Int.{ints, clamps}
 use Rattle.std.proofs.ByRecursion.{All-weaker, All-push}
 use Rattle.std.proofs.lemmas.Bool.{true≢false}
-use Rattle.std.specs.List.{AllByRecursion as All}
+use Rattle.std.specs.List.{AllByRecursion}
 use Rattle.model.specs.Version.{Version, Content, Schema, version_ids, schema_ids, same_content}
 use Rattle.model.specs.Law.{Ascending}
 use Rattle.model.proofs.Basics.{same_true}
@@ -21,7 +21,7 @@ under_first : (i : ℤ) (o : Option ℤ) → i ≤ℤ greatest_of i o
 under_first i None = omega (arith, ints)
 under_first i (Some h) = omega (arith, ints, clamps)
 
-all_under : (ids : List ℤ) → All (Under (highest ids)) ids
+all_under : (ids : List ℤ) → AllByRecursion (Under (highest ids)) ids
 all_under [] = tt
 all_under (i ∷ is) = (under_first i (highest is), All-weaker (Under (highest is)) (λ j. j ≤ℤ greatest_of i (highest is)) (λ j u. under_more i (highest is) j u) is (all_under is))
 
@@ -29,14 +29,14 @@ under_after : (first : ℤ) (o : Option ℤ) (j : ℤ) → Under o j → j <ℤ 
 under_after first None j u = absurd u
 under_after first (Some h) j u = omega (arith, ints)
 
-pub below_next : (first : ℤ) (ids : List ℤ) → All (λ j. j <ℤ next_id first ids) ids
+pub below_next : (first : ℤ) (ids : List ℤ) → AllByRecursion (λ j. j <ℤ next_id first ids) ids
 below_next first ids = All-weaker (Under (highest ids)) (λ j. j <ℤ next_id first ids) (λ j u. under_after first (highest ids) j u) ids (all_under ids)
 
-pub next_not_negative : (ids : List ℤ) → All (λ j. pos 0 ≤ℤ j) ids → pos 0 ≤ℤ next_id (pos 0) ids
+pub next_not_negative : (ids : List ℤ) → AllByRecursion (λ j. pos 0 ≤ℤ j) ids → pos 0 ≤ℤ next_id (pos 0) ids
 next_not_negative [] a = omega (arith, ints)
 next_not_negative (i ∷ is) a = let h = (below_next (pos 0) (i ∷ is)).0 in let g = a.0 in omega (arith, ints)
 
-pub rising_push : (ids : List ℤ) (i : ℤ) → Ascending ids → All (λ j. j <ℤ i) ids → Ascending (ids ++ i ∷ [])
+pub rising_push : (ids : List ℤ) (i : ℤ) → Ascending ids → AllByRecursion (λ j. j <ℤ i) ids → Ascending (ids ++ i ∷ [])
 rising_push [] i r a = (tt, tt)
 rising_push (j ∷ js) i r a = (All-push (λ x. j <ℤ x) js i r.0 a.0, rising_push js i r.1 a.1)
 
@@ -53,7 +53,7 @@ not_last i (pos n) h e = refl
 not_last i (negsuc n) h e = let z : ◌≡◌ {A = ℕ} 0 1 = omega (arith, ints) in absurd (omega arith)
 
 -- a held schema's id is not -1
-pub held_not_last : {C : Type 0} (i : ℤ) (ts : List (Schema C)) → All (λ j. pos 0 ≤ℤ j) (schema_ids ts) → holds i (schema_ids ts) ≡ true → same_number i last_added ≡ false
+pub held_not_last : {C : Type 0} (i : ℤ) (ts : List (Schema C)) → AllByRecursion (λ j. pos 0 ≤ℤ j) (schema_ids ts) → holds i (schema_ids ts) ≡ true → same_number i last_added ≡ false
 held_not_last i [] a h = absurd (true≢false (sym h))
 held_not_last i (t ∷ ts) a h = go (same_number t.id i) refl h (held_not_last i ts a.1)
   where
@@ -62,7 +62,7 @@ held_not_last i (t ∷ ts) a h = go (same_number t.id i) refl h (held_not_last i
     go false e h more = more h
 
 -- a content with schema id -1 is no held version's
-pub meets_none : (c : Content) (vs : List Version) → c.schema_id ≡ last_added → All (λ v. same_number v.content.schema_id last_added ≡ false) vs → filter (λ v. same_content v.content c) vs ≡ []
+pub meets_none : (c : Content) (vs : List Version) → c.schema_id ≡ last_added → AllByRecursion (λ v. same_number v.content.schema_id last_added ≡ false) vs → filter (λ v. same_content v.content c) vs ≡ []
 meets_none c [] e a = refl
 meets_none c (v ∷ vs) e a =
     let p : same_number v.content.schema_id c.schema_id ≡ false = ap (same_number v.content.schema_id) e ∙ a.0 in

@@ -4,7 +4,7 @@ use lib.Seq.{drop-append-le}
 use Rattle.std.proofs.lemmas.List.{append-nil}
 use Rattle.std.proofs.lemmas.Bool.{leb-false, not-false}
 use Rattle.std.proofs.ByRecursion.{All-push}
-use Rattle.std.specs.List.{AllByRecursion as All}
+use Rattle.std.specs.List.{AllByRecursion}
 use Rattle.model.specs.Bytes.{Bytes, trimmed, unless_slash, same_list, same_bytes, repeats}
 use Rattle.model.specs.Version.{Property, Version, LogEntry, Schema, Sameness, same_property, dialects, version_ids, schema_ids}
 use Rattle.model.specs.Refusals.{version_not_held, Fault, fault, refuse, refuse_with, then, full, over, schemas_part, versions_part, builder_part}
@@ -25,8 +25,8 @@ use Rattle.model.specs.Limits.{most_in_call}
 -- what holds of every reachable state
 pub record Reached {C : Type 0} (s : State C) : Type 0 where
   pub within : s.versions_at_start ≤ length s.metadata.versions
-  pub schemas_not_negative : All (λ i. pos 0 ≤ℤ i) (schema_ids s.metadata.schemas)
-  pub versions_name : All (λ v. same_number v.content.schema_id last_added ≡ false) s.metadata.versions
+  pub schemas_not_negative : AllByRecursion (λ i. pos 0 ≤ℤ i) (schema_ids s.metadata.schemas)
+  pub versions_name : AllByRecursion (λ v. same_number v.content.schema_id last_added ≡ false) s.metadata.versions
   pub rising : Ascending (version_ids s.metadata.versions)
   pub log_fits : length s.metadata.version_log < s.rooms.version_log
   pub changes_fit : length s.changes ≤ s.rooms.changes
@@ -75,7 +75,7 @@ module _ {C : Type 0} where
     last_same : u.last_added_version ≡ s.last_added_version
     changes_same : u.changes ≡ s.changes
     pending_same : u.pending_entry ≡ s.pending_entry
-    schemas_good : All (λ i. pos 0 ≤ℤ i) (schema_ids u.metadata.schemas)
+    schemas_good : AllByRecursion (λ i. pos 0 ≤ℤ i) (schema_ids u.metadata.schemas)
 
   -- an edit with no event that records one change, which does the same again
   lead_noted : (k : Sameness C) (s u t : State C) (c : Change C) → Reached s → Quiet s u → additions (c ∷ []) ≡ 0 → recorded c u ≡ Ok t →
@@ -108,8 +108,8 @@ module _ {C : Type 0} where
         },
         record {
           within = subst₂ (λ n vs. n ≤ length vs) (sym opened_is) (sym versions_is) h.within;
-          schemas_not_negative = subst (λ ts. All (λ i. pos 0 ≤ℤ i) (schema_ids ts)) (sym (ap (λ x. x.metadata.schemas) is)) q.schemas_good;
-          versions_name = subst (All (λ v. same_number v.content.schema_id last_added ≡ false)) (sym versions_is) h.versions_name;
+          schemas_not_negative = subst (λ ts. AllByRecursion (λ i. pos 0 ≤ℤ i) (schema_ids ts)) (sym (ap (λ x. x.metadata.schemas) is)) q.schemas_good;
+          versions_name = subst (AllByRecursion (λ v. same_number v.content.schema_id last_added ≡ false)) (sym versions_is) h.versions_name;
           rising = subst (λ vs. Ascending (version_ids vs)) (sym versions_is) h.rising;
           log_fits = subst₂ (λ es r. length es < r.version_log) (sym log_is) (sym rooms_are) h.log_fits;
           changes_fit = subst₂ (λ cs n. length cs ≤ n) (sym changes_is) (ap (λ x. x.changes) (sym rooms_are)) (fits_push s.rooms.changes s.changes c few);
@@ -188,7 +188,7 @@ module _ {C : Type 0} where
       again : (p : Option LogEntry) → after_add_schema k (with_pending p s) x ≡ Ok (with_pending p t)
       again p = schema_again p s k x ∙ ap (through (with_pending p)) e
 
-      quiet : (ts : List (Schema C)) (i : ℤ) → All (λ j. pos 0 ≤ℤ j) (schema_ids ts) → Quiet s (with_last_schema i (with_metadata (with_schemas ts s.metadata) s))
+      quiet : (ts : List (Schema C)) (i : ℤ) → AllByRecursion (λ j. pos 0 ≤ℤ j) (schema_ids ts) → Quiet s (with_last_schema i (with_metadata (with_schemas ts s.metadata) s))
       quiet ts i a = record { rooms_same = refl; opened_same = refl; log_same = refl; current_same = refl; versions_same = refl; last_same = refl; changes_same = refl; pending_same = refl; schemas_good = a }
 
       reuse : (i : ℤ) → (b : Bool) → cond b (Ok s) (recorded (schema_added (schema_with_id i x) None) (with_last_schema i s)) ≡ Ok t → Leads k s t []
@@ -202,7 +202,7 @@ module _ {C : Type 0} where
           let ts : List (Schema C) = s.metadata.schemas ++ stored_schema n ∷ [] in
           lead_noted k s (with_last_schema n.id (with_metadata (with_schemas ts s.metadata) s)) t (schema_added n (Some x.greatest_field)) h
           (quiet ts n.id
-          (subst (All (λ j. pos 0 ≤ℤ j)) (sym (schema_ids_push s.metadata.schemas (stored_schema n)))
+          (subst (AllByRecursion (λ j. pos 0 ≤ℤ j)) (sym (schema_ids_push s.metadata.schemas (stored_schema n)))
           (All-push (λ j. pos 0 ≤ℤ j) (schema_ids s.metadata.schemas) n.id h.schemas_not_negative (next_not_negative (schema_ids s.metadata.schemas) h.schemas_not_negative))))
           refl (refuse_ok (full s.rooms.schemas s.metadata.schemas) _ _ t (refuse_ok (ids_used_up (schema_ids s.metadata.schemas)) _ _ t e').1).1 (λ p clock. again p)
 
@@ -302,7 +302,7 @@ module _ {C : Type 0} where
       schemas_not_negative = h.schemas_not_negative;
       versions_name = All-push (λ w. same_number w.content.schema_id last_added ≡ false) s.metadata.versions n h.versions_name names;
       rising = subst Ascending (sym (ids_push s.metadata.versions n))
-          (rising_push (version_ids s.metadata.versions) n.id h.rising (subst (λ i. All (λ j. j <ℤ i) (version_ids s.metadata.versions)) (sym is_next) (below_next (pos 1) (version_ids s.metadata.versions))));
+          (rising_push (version_ids s.metadata.versions) n.id h.rising (subst (λ i. AllByRecursion (λ j. j <ℤ i) (version_ids s.metadata.versions)) (sym is_next) (below_next (pos 1) (version_ids s.metadata.versions))));
       log_fits = h.log_fits;
       changes_fit = fits_push s.rooms.changes s.changes (version_added v) few;
     },

@@ -1,6 +1,6 @@
 -- The laws of accepted builds, stated of the start and of what the accepted edits did. Assumes nothing.
 use Rattle.std.specs.Prelude.{◌≡◌, ℕ, suc, ◌≤◌, cond, ◌&&◌, ◌⊎◌, ◌↔◌, List, [], ◌∷◌, ◌++◌, length, take, ℤ, ◌<ℤ◌, Some, None, Ok, Err, Decides, Option, Result, ◌==◌, ◌≢◌, nat_le}
-use Rattle.std.specs.List.{AllByRecursion as All}
+use Rattle.std.specs.List.{AllByRecursion}
 use Rattle.model.specs.Version.{Content, Version, LogEntry, same_content, Sameness, version_ids}
 use Rattle.model.specs.Refusals.{Fault}
 use Rattle.model.specs.State.{VersionIn, Edit, Change, Metadata, State, upgrade_format, set_location, assign_uuid, add_schema, add_version, set_current_version_id, set_current_version, set_properties, remove_properties}
@@ -107,12 +107,12 @@ Member (y ∷ ys) x = (y ≡ x) ⊎ Member ys x
 -- each id below all that follow it
 abbrev pub Ascending : List ℤ → Type 0
 Ascending [] = Unit {0}
-Ascending (i ∷ is) = All (λ j. i <ℤ j) is × Ascending is
+Ascending (i ∷ is) = AllByRecursion (λ j. i <ℤ j) is × Ascending is
 
 -- each id above all that follow it
 abbrev pub Descending : List Version → Type 0
 Descending [] = Unit {0}
-Descending (v ∷ vs) = All (λ w. w.id <ℤ v.id) vs × Descending vs
+Descending (v ∷ vs) = AllByRecursion (λ w. w.id <ℤ v.id) vs × Descending vs
 
 -- a ranking of the held versions: the current one first, the others by descending id
 pub record Ranked (current : ℤ) (held ranks : List Version) : Type 0 where
@@ -120,7 +120,7 @@ pub record Ranked (current : ℤ) (held ranks : List Version) : Type 0 where
   pub others : List Version
   pub is : ranks ≡ first ∷ others
   pub first_current : first.id ≡ current
-  pub others_not : All (λ v. v.id ≢ current) others
+  pub others_not : AllByRecursion (λ v. v.id ≢ current) others
   pub others_fall : Descending others
   pub from_held : (v : Version) → Member held v → Member ranks v
   pub to_held : (v : Version) → Member ranks v → Member held v
@@ -135,7 +135,7 @@ Suffix {A} end all = (front : List A) × (front ++ end ≡ all)
 
 -- each entry names one of the versions
 abbrev pub NamesOnly : List Version → List LogEntry → Type 0
-NamesOnly kept_ones es = All (λ e. (v : Version) × Member kept_ones v × (v.id ≡ e.id)) es
+NamesOnly kept_ones es = AllByRecursion (λ e. (v : Version) × Member kept_ones v × (v.id ≡ e.id)) es
 
 -- a suffix of the log that names kept versions only, and no longer one does
 pub record LongestSuffix (kept_ones : List Version) (all end : List LogEntry) : Type 0 where

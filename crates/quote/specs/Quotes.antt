@@ -1,6 +1,6 @@
 -- A text in quotes: how bytes are written, and how they are read back. Assumes nothing.
 use Rattle.std.specs.Prelude.{◌≡◌, ℕ, ◌+◌, ◌-◌, ◌*◌, ◌/◌, ◌%◌, ◌<◌, Bool, cond, ◌&&◌, ◌||◌, List, [], ◌∷◌, ◌++◌, Some, None, Option, ◌==◌, nat_le, nat_lt}
-use Rattle.std.specs.List.{flat_map, AllByRecursion as All}
+use Rattle.std.specs.List.{flat_map, AllByRecursion}
 use Rattle.quote.specs.declared.read.Mode.{Mode}
 use Rattle.quote.specs.declared.read.Mode.TheVariants.{Opening, Plain, Escape, High, Low}
 use Rattle.quote.specs.declared.read.Step.{Step}
@@ -73,7 +73,7 @@ unquoted = reading Opening
 
 -- each is a byte
 abbrev pub AllBytes : List ℕ → Type 0
-AllBytes = All (λ b. b < 256)
+AllBytes = AllByRecursion (λ b. b < 256)
 
 -- the quoted text reads back to the same bytes, whatever follows it
 abbrev pub ReadsBack : List ℕ → Type 0

@@ -1,5 +1,5 @@
 -- What the code's versions and log entries mean. Assumes nothing.
-use Rattle.std.specs.Prelude.{ℕ, Bool, true, not, ◌&&◌, ◌||◌, List, map, ℤ, is_some, Some, None, Option}
+use Rattle.std.specs.Prelude.{ℕ, Bool, true, not, ◌&&◌, ◌||◌, map, ℤ, is_some, Some, None, Option}
 use Rattle.std.specs.Option.{option_map}
 use Rattle.model.specs.Bytes.{Bytes, all, ascii}
 use Rattle.model.specs.Limits.{most_representations, most_summary_pairs, most_namespace_parts}

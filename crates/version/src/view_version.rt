@@ -1,8 +1,9 @@
-ghost use Rattle.std.specs.Prelude.{◌≡◌, not, map, pos, is_some, is_ok};
+ghost use Rattle.std.specs.Prelude.{◌≡◌, not, map, pos, is_some, is_ok, refl};
 ghost use Rattle.std.specs.Option.{option_map};
 ghost use Rattle.model.specs.Bytes.{all, ascii};
 ghost use Rattle.model.specs.Edits.{out_of_order};
 ghost use Rattle.model.specs.Version.{Content, same_content, same_text};
+ghost use Rattle.model.proofs.Sames.{same_law};
 ghost use Rattle.text.specs.Meaning.{bytes_of};
 ghost use Rattle.version.specs.Meaning.{content_of, version_verdict, renumbered, of_schema, pair_of, sound_texts};
 
@@ -179,4 +180,16 @@ impl Numbered for ViewVersion<'_> {
     }
 }
 
-impl Lawful for ViewVersion<'_> {}
+impl Lawful for ViewVersion<'_> {
+    ghost decides = { same_law };
+
+    ghost own = { λ x. refl };
+
+    ghost again = { λ i j x. refl };
+
+    ghost renamed = { λ i x. refl };
+
+    ghost contents = { λ b i x. refl };
+
+    ghost verdicts = { λ b i x. refl };
+}

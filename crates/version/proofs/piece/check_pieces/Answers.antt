@@ -3,16 +3,16 @@ use Rattle.version.proofs.Looped.{all_more, all_fails, all_left}
 use Rattle.version.proofs.Exits.{not_ok}
 use Rattle.version.proofs.piece.check_pieces.Goals as goal
 
-pub returns-in-err-check-texts : goal.returns-in-err-check-texts
-returns-in-err-check-texts g c =
-    not_ok c.from-residual.result c.from-residual.ensures.0
-    ∙ (all_fails _ c.args.pieces.now c.loop-piece.piece-index c.piece-item.result c.loop-piece-test.true (sym c.piece-item.is) (sym c.in-err-check-texts.ensures)
+pub returns-in_err-check_texts : goal.returns-in_err-check_texts
+returns-in_err-check_texts g c =
+    not_ok c.from_residual.result c.from_residual.ensures.0
+    ∙ (all_fails _ c.args.pieces.now c.loop-piece.piece-index c.piece-item.result c.loop-piece-test.true (sym c.piece-item.is) (sym c.in_err-check_texts.ensures)
     ∙ c.loop-piece.invariant)
 
 pub loop-piece-preserved : goal.loop-piece-preserved
 loop-piece-preserved g c =
     all_more _ c.args.pieces.now c.loop-piece.piece-index c.piece-item.result c.loop-piece-test.true (sym c.piece-item.is)
-    (sym c.in-ok-check-texts.ensures)
+    (sym c.in_ok-check_texts.ensures)
     ∙ c.loop-piece.invariant
 
 pub returns : goal.returns

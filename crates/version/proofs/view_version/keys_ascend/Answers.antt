@@ -6,8 +6,8 @@ use Rattle.version.proofs.Blank.{no_pair}
 use Rattle.version.proofs.Ordered.{order_none, order_starts, order_ends, order_more, order_fails}
 use Rattle.version.proofs.view_version.keys_ascend.Goals as goal
 
-pub returns-in-default : goal.returns-in-default
-returns-in-default c = ap is_some (sym (order_none (pair_of c.args.block.now) c.args.summary.now (omega (arith, ltb-true))))
+pub returns-in_default : goal.returns-in_default
+returns-in_default c = ap is_some (sym (order_none (pair_of c.args.block.now) c.args.summary.now (omega (arith, ltb-true))))
 
 pub loop-pair-init : goal.loop-pair-init
 loop-pair-init c = order_starts (pair_of c.args.block.now) c.args.summary.now no_pair (omega (arith, ltb-false))
