@@ -1,5 +1,5 @@
 -- Only the last entry of the log counts. Assumes nothing.
-use Rattle.std.proofs.Common.{◌≡◌, ℕ, suc, ◌-◌, ◌<◌, ◌≤◌, false, List, [], ◌∷◌, map, length, get_or, ℤ, pos, ◌+ℤ◌, refl, ap, ◌∙◌, arith}
+use Rattle.std.proofs.Common.{◌≡◌, ℕ, suc, ◌-◌, ◌≤◌, false, List, [], ◌∷◌, map, length, get_or, ℤ, pos, ◌+ℤ◌, refl, ap, ◌∙◌, arith}
 use lib.Signed.{lt_z}
 use Rattle.model.specs.Edits.{too_early_for}
 use Rattle.version.specs.Meaning.{entry_of}

@@ -3,8 +3,8 @@ use Rattle.version.proofs.Blank.{no_representation}
 use Rattle.dialect.proofs.Names.{any_left, any_more, any_found}
 use Rattle.dialect.proofs.dialects.has_dialect.Goals as goal
 
-pub returns-then-same-folded : goal.returns-then-same-folded
-returns-then-same-folded c =
+pub returns-then-same_folded : goal.returns-then-same_folded
+returns-then-same_folded c =
     any_found _ _ c.args.representations.now c.loop-representation.representation-index no_representation c.loop-representation-test.true (cc)
     ∙ c.loop-representation.invariant
 
