@@ -1,6 +1,6 @@
 -- How far a reading has come: what was read so far, and what is still to be read. Assumes nothing.
 use Rattle.std.proofs.Common.{◌≡◌, ℕ, ◌+◌, ◌<◌, ◌≤◌, List, [], ◌∷◌, ◌++◌, length, get_or, take, drop, Some, None, Option, sym, refl, ap, ◌∙◌, arith}
-use Rattle.std.proofs.lemmas.List.{append_assoc, at_drop_more, at_drop_all}
+use Rattle.std.proofs.lemmas.List.{at_drop_more, at_drop_all}
 use Rattle.quote.specs.declared.read.Mode.{Mode}
 use Rattle.quote.specs.declared.read.Mode.TheVariants.{Plain}
 use Rattle.quote.specs.declared.read.Step.{Step}

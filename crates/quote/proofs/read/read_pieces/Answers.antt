@@ -2,12 +2,12 @@
 use Rattle.std.proofs.lemmas.Result.{IfOk-from_err}
 use Rattle.quote.proofs.Progress.{so_far_kept, so_far_byte, so_far_more, found_text, found_bad, found_end}
 use Rattle.quote.proofs.read.read_pieces.Goals as goal
-use Rattle.quote.proofs.read.read_pieces.Goals.{in-Byte+in-ok-push, in-More}
+use Rattle.quote.proofs.read.read_pieces.Goals.{in-Byte+in_ok-push-in-Byte, in-More}
 
-pub returns-in-err-push : goal.returns-in-err-push
-returns-in-err-push c = record {
-  found = IfOk-from_err _ _ c.from-residual.ensures.0;
-  kept = rw c.in-err-push.ensures.items (so_far_kept c.args.input.now _ _ _ _ c.loop-i.invariant.0);
+pub returns-in_err-push-in-Byte : goal.returns-in_err-push-in-Byte
+returns-in_err-push-in-Byte c = record {
+  found = IfOk-from_err _ _ c.from_residual.ensures.0;
+  kept = rw c.in_err-push-in-Byte.ensures.items (so_far_kept c.args.input.now _ _ _ _ c.loop-i.invariant.0);
 }
 
 pub returns-in-Close : goal.returns-in-Close
@@ -24,10 +24,10 @@ returns-in-Bad c = record {
 
 pub loop-i-preserved : goal.loop-i-preserved
 loop-i-preserved c =
-    elim c.match-take-byte.branch [
-      | in-Byte+in-ok-push w ↦
+    elim c.match-take_byte.branch [
+      | in-Byte+in_ok-push-in-Byte w ↦
           rw (w.out-is, w.mode-is)
-          (so_far_byte c.args.input.now _ _ _ c.loop-i.mode c.loop-i.i w.in-Byte.value c.loop-i-test.true w.in-Byte.ensures.value w.in-ok-push.ensures.items c.loop-i.invariant.0, tt)
+          (so_far_byte c.args.input.now _ _ _ c.loop-i.mode c.loop-i.i w.in-Byte.value c.loop-i-test.true w.in-Byte.ensures.value w.in_ok-push-in-Byte.ensures.items c.loop-i.invariant.0, tt)
       | in-More w ↦
           rw (w.out-is, w.mode-is)
           (so_far_more c.args.input.now _ _ c.loop-i.mode c.loop-i.i w.in-More.next c.loop-i-test.true w.in-More.ensures.value c.loop-i.invariant.0, w.in-More.ensures.small)

@@ -7,11 +7,11 @@ use Rattle.quote.proofs.write.write_quoted.Goals as goal
 pub returns-in-Ok : goal.returns-in-Ok
 returns-in-Ok c = record {
   after = c.in-Ok.ensures.made;
-  inverse = λ rest. reads_back c.args.bytes.now rest (All-from_get_or _ _ 0 (λ i _. omega (arith, c.type-inv.bytes i)));
+  inverse = λ rest. reads_back c.args.bytes.now rest (All-from_get_or _ _ 0 (λ i _. omega (arith, c.type_inv.bytes i)));
 }
 
 pub returns-in-Err : goal.returns-in-Err
 returns-in-Err c = record {
-  after = c.truncate.ensures.items ∙ (ap (λ n. take n (vec_items c.write-pieces.new.out)) (search rules) ∙ c.in-Err.ensures.kept);
-  inverse = λ rest. reads_back c.args.bytes.now rest (All-from_get_or _ _ 0 (λ i _. omega (arith, c.type-inv.bytes i)));
+  after = c.truncate.ensures.items ∙ (ap (λ n. take n (vec_items c.write_pieces.new.out)) (search rules) ∙ c.in-Err.ensures.kept);
+  inverse = λ rest. reads_back c.args.bytes.now rest (All-from_get_or _ _ 0 (λ i _. omega (arith, c.type_inv.bytes i)));
 }
