@@ -1,9 +1,9 @@
 -- The log that is kept, one more entry at a time. Assumes nothing.
-use Rattle.std.proofs.Common.{◌≡◌, ℕ, ◌+◌, ◌<◌, ◌≤◌, Bool, true, false, cond, ◌&&◌, ◌||◌, List, [], ◌∷◌, ◌++◌, map, length, get_or, take, drop, ℤ, sym, refl, ap, ◌∙◌, arith}
-use Rattle.std.proofs.lemmas.List.{length-take-le, length_push, take_more, drop-append-le, drop_all, map_push}
+use Rattle.std.proofs.Common.{◌≡◌, ℕ, ◌+◌, ◌<◌, ◌≤◌, Bool, true, false, cond, ◌&&◌, List, [], ◌∷◌, ◌++◌, map, length, get_or, take, drop, ℤ, sym, refl, ap, ◌∙◌, arith}
+use Rattle.std.proofs.lemmas.List.{length-take-le, take_more, drop-append-le, drop_all, map_push}
 use Rattle.std.proofs.lemmas.Bool.{cond-true, cond-false}
 use Rattle.model.specs.Version.{LogEntry}
-use Rattle.model.specs.Ids.{same_number, holds}
+use Rattle.model.specs.Ids.{holds}
 use Rattle.model.specs.Build.{names_only, kept_log}
 
 names_only_push : (ids : List ℤ) (es : List LogEntry) (e : LogEntry) → names_only ids (es ++ e ∷ []) ≡ (names_only ids es && holds e.id ids)

@@ -1,11 +1,11 @@
 -- The tests of the updates one after another, and what a plan then answers. Assumes nothing.
-use Rattle.std.proofs.Common.{◌≡◌, ℕ, ◌+◌, ◌-◌, ◌<◌, ◌≤◌, Bool, true, false, not, ◌&&◌, ltb, List, map, length, take, IsErrAnd, Some, None, Ok, Err, Option, Result, sym, refl, ap, ◌∙◌, subst, arith}
+use Rattle.std.proofs.Common.{◌≡◌, ℕ, ◌+◌, ◌-◌, ◌<◌, ◌≤◌, Bool, true, false, not, ◌&&◌, List, map, length, take, IsErrAnd, Some, None, Ok, Err, Option, Result, sym, refl, ap, ◌∙◌, subst, arith}
 use Rattle.std.proofs.lemmas.List.{length-map, length-take}
 use Rattle.std.proofs.lemmas.Bool.{lt-ltb, le-ltb, ltb-false}
 use Rattle.model.specs.Bytes.{Bytes, same_list}
 use Rattle.model.specs.Version as model
 use Rattle.model.specs.Limits.{most_in_call}
-use Rattle.model.specs.Refusals.{Fault, fault, refuse, refuse_at, over, then, malformed, negative_history_size, limit_reached, properties_part}
+use Rattle.model.specs.Refusals.{Fault, fault, refuse_at, over, then, malformed, negative_history_size, limit_reached, properties_part}
 use Rattle.model.specs.Edits.{read_all, out_of_order, negative_size, put_properties, properties_after}
 use Rattle.model.proofs.Basics.{refuse_ok, refuse_at_ok, ok_is}
 use Rattle.text.specs.Meaning.{sound}

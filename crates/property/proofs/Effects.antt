@@ -1,10 +1,10 @@
 -- One update more: what it adds, and whether it changes a property. Assumes nothing.
-use Rattle.std.proofs.Common.{◌≡◌, ℕ, suc, ◌+◌, ◌<◌, ◌≤◌, Bool, true, false, cond, not, ◌&&◌, List, [], ◌∷◌, ◌++◌, map, length, get_or, take, drop, pos, is_some, Some, None, Option, sym, refl, ap, ◌∙◌, subst, inl, inr, arith}
+use Rattle.std.proofs.Common.{◌≡◌, ℕ, ◌+◌, ◌<◌, ◌≤◌, Bool, true, false, not, List, [], ◌∷◌, ◌++◌, map, length, get_or, take, drop, pos, is_some, Some, None, Option, sym, refl, ap, ◌∙◌, inl, inr, arith}
 use Rattle.std.proofs.lemmas.List.{map_more, map-append, take-append-drop, drop_more}
 use Rattle.std.proofs.lemmas.Bool.{cases_Bool, and_parts}
 use Rattle.std.proofs.lemmas.Bool.Decides.{not_from_Decides}
 use Rattle.model.specs.Bytes.{Bytes, same_bytes, same_list}
-use Rattle.model.specs.Version.{Property, Content, same_property, same_content}
+use Rattle.model.specs.Version.{Property, Content, same_property}
 use Rattle.model.specs.Edits.{out_of_order, has_key, put_property, put_properties}
 use Rattle.model.specs.Build.{look_up}
 use Rattle.model.proofs.Sames.{same_law}

@@ -1,6 +1,6 @@
 -- Properties put into a list: their lengths, their look-ups, and when nothing changes. Assumes nothing.
-use Rattle.std.proofs.Common.{◌≡◌, ℕ, suc, ◌+◌, ◌≤◌, Bool, true, false, cond, not, ◌||◌, List, [], ◌∷◌, ◌++◌, length, is_some, Some, None, Option, sym, refl, ap, ◌∙◌, inl, inr, add-zero, zero-add, arith}
-use Rattle.std.proofs.lemmas.Bool.{true≢false, cases_Bool, or_parts}
+use Rattle.std.proofs.Common.{◌≡◌, suc, ◌+◌, ◌≤◌, Bool, true, false, cond, ◌||◌, List, [], ◌∷◌, ◌++◌, length, is_some, Some, sym, refl, ap, ◌∙◌, arith}
+use Rattle.std.proofs.lemmas.Bool.{true≢false, or_parts}
 use Rattle.model.specs.Bytes.{Bytes, same_bytes, before}
 use Rattle.model.specs.Version.{Property}
 use Rattle.model.specs.Edits.{has_key, revalued, placed, put_property, put_properties}

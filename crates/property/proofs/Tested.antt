@@ -1,11 +1,11 @@
 -- The tests of the updates, as their loops make them. Assumes nothing.
-use Rattle.std.proofs.Common.{◌≡◌, ℕ, suc, ◌+◌, ◌-◌, ◌<◌, ◌≤◌, Bool, true, false, cond, not, ◌&&◌, List, [], ◌∷◌, map, length, get_or, drop, Some, None, Ok, Err, Option, Result, sym, refl, ap, ◌∙◌, inl, inr, add-one, arith}
+use Rattle.std.proofs.Common.{◌≡◌, ℕ, suc, ◌+◌, ◌-◌, ◌<◌, ◌≤◌, Bool, true, false, cond, not, ◌&&◌, List, [], ◌∷◌, map, length, get_or, drop, Some, None, Ok, Err, Option, sym, refl, ap, ◌∙◌, inl, inr, add-one, arith}
 use Rattle.std.specs.List.{prefix_len}
 use Rattle.std.proofs.lemmas.List.{at_drop_more, at_drop_all}
 use Rattle.std.proofs.lemmas.Bool.{cond-true, cond-false, cases_lt}
 use Rattle.model.specs.Bytes.{Bytes, before, same_bytes}
 use Rattle.model.specs.Version.{Property}
-use Rattle.model.specs.Refusals.{Fault, bad_text, properties_part, then}
+use Rattle.model.specs.Refusals.{bad_text, properties_part}
 use Rattle.model.specs.Numbers.{below_zero, signed_reading}
 use Rattle.model.specs.Settings.{history_key}
 use Rattle.model.specs.Edits.{read_all, misplaced, out_of_order, negative_size}

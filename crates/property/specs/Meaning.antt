@@ -1,5 +1,5 @@
 -- What the code's properties mean. Assumes nothing.
-use Rattle.std.specs.Prelude.{◌≡◌, ℕ, max, Bool, cond, ◌&&◌, List, map, length, take, drop, Some, None, Option, nat_lt}
+use Rattle.std.specs.Prelude.{◌≡◌, ℕ, max, cond, ◌&&◌, List, map, length, take, drop, Some, None, Option, nat_lt}
 use Rattle.model.specs.Bytes.{Bytes}
 use Rattle.model.specs.Version as model
 use Rattle.text.specs.Meaning.{bytes_of, sound}

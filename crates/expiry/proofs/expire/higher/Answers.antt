@@ -1,11 +1,11 @@
-use Rattle.std.proofs.Common.{◌≡◌, true, false, map, take, sym, refl, ap, ◌∙◌, ap₂, arith, w32, to_z, of_z, rules}
+use Rattle.std.proofs.Common.{◌≡◌, map, sym, refl, ap, ◌∙◌, ap₂, arith, w32, to_z, of_z, rules}
 use lib.Signed.{lt_z}
-use Rattle.std.proofs.lemmas.Int.{to_z-of_z, ints}
+use Rattle.std.proofs.lemmas.Int.{to_z-of_z}
 use Rattle.std.proofs.lemmas.List.{take_all}
 use Rattle.expiry.specs.Expiry.{higher_than}
 use Rattle.expiry.proofs.Places.{higher_yes, higher_no}
 use Rattle.expiry.proofs.expire.higher.Goals as goal
-use Rattle.expiry.proofs.expire.higher.Goals.{then_id, else-id}
+use Rattle.expiry.proofs.expire.higher.Goals.{then-id, else-id}
 
 pub loop-v-init : goal.loop-v-init
 unfolding higher_than
@@ -17,7 +17,7 @@ loop-v-preserved g c =
     let z : to_z w32 (of_z w32 c.id.result) ≡ f c.v-item.result = to_z-of_z w32 c.id.result (search rules) ∙ c.id.ensures in
     let i = to_z w32 (of_z w32 c.args.id) in
     elim c.if-id.branch [
-      | then_id w ↦ (
+      | then-id w ↦ (
         omega (arith, w.count-is),
         w.count-is ∙ higher_yes f c.args.items.now c.loop-v.v-index i c.loop-v-test.true c.v-item.is c.loop-v.invariant.1 (ap (lt_z i) (sym z) ∙ w.if-id.true),
       )

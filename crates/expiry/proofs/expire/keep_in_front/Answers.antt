@@ -3,7 +3,7 @@ use Rattle.std.proofs.lemmas.Int.{to_z-of_z}
 use Rattle.expiry.specs.Expiry.{keeps_id, kept_of, over_front}
 use Rattle.expiry.proofs.Fronts.{count_yes, front_yes, count_no, front_no, take_up_to}
 use Rattle.expiry.proofs.expire.keep_in_front.Goals as goal
-use Rattle.expiry.proofs.expire.keep_in_front.Goals.{then_Keeps, else-keeps}
+use Rattle.expiry.proofs.expire.keep_in_front.Goals.{then-keeps, else-keeps}
 
 pub loop-i-preserved : goal.loop-i-preserved
 loop-i-preserved g c =
@@ -14,7 +14,7 @@ loop-i-preserved g c =
     let h : c.loop-i.i < length xs = omega (arith, c.loop-i-test.true, c.min-i-end.ensures) in
     let inv = c.loop-i.invariant in
     elim c.if-keeps.branch [
-      | then_Keeps w ↦ (
+      | then-keeps w ↦ (
         omega (arith, w.count-is, inv.0),
         w.count-is ∙ count_yes q xs c.loop-i.slots c.loop-i.i c.loop-i.count y h inv.0 inv.1 inv.2 c.index-slots-i.is (is ∙ w.if-keeps.true),
         w.slots-is ∙ front_yes q xs c.loop-i.slots c.loop-i.i c.loop-i.count y h inv.0 inv.1 inv.2 c.index-slots-i.is (is ∙ w.if-keeps.true),

@@ -1,4 +1,4 @@
-use Rattle.std.proofs.Common.{◌≡◌, ℕ, ◌-◌, ◌<◌, ◌≤◌, ◌⊎◌, map, sym, ap, ◌∙◌, subst, inl, inr, arith, w32, rules}
+use Rattle.std.proofs.Common.{◌≡◌, ◌<◌, ◌⊎◌, map, ap, ◌∙◌, inl, inr, arith, w32}
 use Rattle.std.proofs.lemmas.Int.{to_z-of_z}
 use Rattle.model.specs.Build.{how_many_to_keep}
 use Rattle.expiry.specs.Expiry.{higher_than, places_for}

@@ -1,5 +1,4 @@
-use Rattle.std.proofs.Common.{◌≡◌, Bool, not, ◌&&◌, length, Err, sym, ap, ◌∙◌, arith}
-use Rattle.std.specs.List.{prefix_len}
+use Rattle.std.proofs.Common.{Bool, not, ◌&&◌, Err, sym, ap, ◌∙◌, arith}
 use Rattle.model.specs.Bytes.{Bytes}
 use Rattle.model.specs.Refusals.{bad_text, properties_part}
 use Rattle.text.specs.Meaning.{sound}
@@ -15,12 +14,12 @@ good block p = sound block p.key && sound block p.value
 pub loop-i-preserved : goal.loop-i-preserved
 loop-i-preserved c =
     passed_over (λ p. not (good c.args.block.now p)) c.args.updates.now c.loop-i.i _ c.loop-i-test.true
-    (ap not (sym c.check.ensures ∙ c.is-err.ensures.negation) ∙ ap (λ b. not (not b)) c.if-is-err.false) c.loop-i.invariant
+    (ap not (sym c.check.ensures ∙ c.is_err.ensures.negation) ∙ ap (λ b. not (not b)) c.if-is_err.false) c.loop-i.invariant
 
-pub returns-then-is-err : goal.returns-then-is-err
-returns-then-is-err c =
+pub returns-then-is_err : goal.returns-then-is_err
+returns-then-is_err c =
     let e = stopped_at (λ p. not (good c.args.block.now p)) c.args.updates.now c.loop-i.i _ c.loop-i-test.true
-    (ap not (sym c.check.ensures ∙ c.is-err.ensures.negation) ∙ ap (λ b. not (not b)) c.if-is-err.true) c.loop-i.invariant in
+    (ap not (sym c.check.ensures ∙ c.is_err.ensures.negation) ∙ ap (λ b. not (not b)) c.if-is_err.true) c.loop-i.invariant in
     read_bad (good c.args.block.now) (property_of c.args.block.now) 0 c.args.updates.now (omega (arith, e, c.loop-i-test.true))
     ∙ ap (λ n. Err (record { number = bad_text; part = properties_part; position = n })) (omega (arith, e))
 

@@ -1,4 +1,4 @@
-use Rattle.std.proofs.Common.{◌≡◌, true, false, not, map, length, sym, ap, ◌∙◌, ap₂, arith}
+use Rattle.std.proofs.Common.{not, map, length, sym, ap, ◌∙◌, ap₂}
 use Rattle.std.proofs.lemmas.List.{take_all, length-map}
 use Rattle.model.specs.Bytes.{same_bytes, same_list}
 use Rattle.model.specs.Version.{same_property}
@@ -7,7 +7,7 @@ use Rattle.property.specs.Meaning.{property_of}
 use Rattle.property.proofs.Places.{look_up_found, look_up_missed}
 use Rattle.property.proofs.Effects.{counted_none, counted_same, counted_revalued, counted_new}
 use Rattle.property.proofs.property.effect.Goals as goal
-use Rattle.property.proofs.property.effect.Goals.{in-Some+then-not-same-bytes, in-Some+else-not-same-bytes, in-None}
+use Rattle.property.proofs.property.effect.Goals.{in-Some+then-not-same_bytes, in-Some+else-not-same_bytes, in-None}
 
 pub loop-p-init : goal.loop-p-init
 loop-p-init c =
@@ -16,18 +16,18 @@ loop-p-init c =
 pub loop-p-preserved : goal.loop-p-preserved
 loop-p-preserved c =
     elim c.match-find.branch [
-      | in-Some+then-not-same-bytes w ↦
-          simp (w.added-is, w.changed_is)
+      | in-Some+then-not-same_bytes w ↦
+          simp (w.added-is, w.changed-is)
           (counted_revalued (property_of c.args.block.now) c.args.updates.now (map (property_of c.args.block.now) c.args.items.now) c.loop-p.p-index _ c.loop-p-test.true c.requires _
           (look_up_found (property_of c.args.block.now) _ _ c.args.items.now w.in-Some.i _ c.bytes.ensures w.in-Some.ensures)
-          (sym (w.if-not-same-bytes.ensures ∙ ap₂ same_bytes w.bytes-in-Some.ensures w.bytes-in-Some-2.ensures)) c.loop-p.invariant)
-      | in-Some+else-not-same-bytes w ↦
-          simp (w.added-is, w.changed_is)
+          (sym (w.if-not-same_bytes.ensures ∙ ap₂ same_bytes w.bytes-in-Some.ensures w.bytes-in-Some-2.ensures)) c.loop-p.invariant)
+      | in-Some+else-not-same_bytes w ↦
+          simp (w.added-is, w.changed-is)
           (counted_same (property_of c.args.block.now) c.args.updates.now (map (property_of c.args.block.now) c.args.items.now) c.loop-p.p-index _ c.loop-p-test.true c.requires _
           (look_up_found (property_of c.args.block.now) _ _ c.args.items.now w.in-Some.i _ c.bytes.ensures w.in-Some.ensures)
-          (sym (w.if-not-same-bytes.ensures ∙ ap₂ same_bytes w.bytes-in-Some.ensures w.bytes-in-Some-2.ensures)) c.loop-p.invariant)
+          (sym (w.if-not-same_bytes.ensures ∙ ap₂ same_bytes w.bytes-in-Some.ensures w.bytes-in-Some-2.ensures)) c.loop-p.invariant)
       | in-None w ↦
-          simp (w.added-is, w.changed_is)
+          simp (w.added-is, w.changed-is)
           (counted_new (property_of c.args.block.now) c.args.updates.now (map (property_of c.args.block.now) c.args.items.now) c.loop-p.p-index _ c.loop-p-test.true c.requires
           (look_up_missed (property_of c.args.block.now) _ _ c.args.items.now c.bytes.ensures w.in-None.ensures) c.loop-p.invariant)
     ]

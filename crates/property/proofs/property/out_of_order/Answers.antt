@@ -1,4 +1,4 @@
-use Rattle.std.proofs.Common.{◌≡◌, sym, ◌∙◌, ap₂, arith}
+use Rattle.std.proofs.Common.{sym, ◌∙◌, ap₂, arith}
 use Rattle.model.specs.Bytes.{before}
 use Rattle.property.specs.Meaning.{property_of}
 use Rattle.property.proofs.Tested.{order_none, order_more, order_stop, order_end}

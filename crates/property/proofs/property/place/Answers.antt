@@ -1,4 +1,4 @@
-use Rattle.std.proofs.Common.{◌≡◌, sym, ap, ◌∙◌}
+use Rattle.std.proofs.Common.{sym, ap, ◌∙◌}
 use Rattle.model.specs.Bytes.{before}
 use Rattle.text.specs.Meaning.{bytes_of}
 use Rattle.property.proofs.Places.{passed_over, stopped_at, ran_out}

@@ -1,4 +1,4 @@
-use Rattle.std.proofs.Common.{◌≡◌, ◌||◌, sym, ap, ◌∙◌, w32, to_z, of_z, rules}
+use Rattle.std.proofs.Common.{◌||◌, sym, ap, ◌∙◌, w32, to_z, of_z, rules}
 use Rattle.std.proofs.lemmas.Int.{to_z-of_z}
 use Rattle.std.proofs.lemmas.Bool.{eq-eqb, or_left}
 use Rattle.model.specs.Ids.{same_number}
@@ -21,6 +21,6 @@ unfolding keeps_id
 returns-else-id-self c =
     let id = c.args.id in
     let k = c.args.self.now in
-    c.at-least.ensures
+    c.at_least.ensures
     ∙ ap (at_least k.lowest) (to_z-of_z w32 id c.ranges.id)
     ∙ sym (ap (λ b. b || at_least k.lowest id) (same_no id k.current (λ e. c.if-id-self.false (ap (of_z w32) e))))

@@ -1,4 +1,4 @@
-use Rattle.std.proofs.Common.{◌≡◌, map, Some, sym, ap, ◌∙◌}
+use Rattle.std.proofs.Common.{map, Some, sym, ap, ◌∙◌}
 use Rattle.model.specs.Bytes.{same_bytes}
 use Rattle.model.specs.Settings.{drop_key}
 use Rattle.model.specs.Build.{look_up, drop_allowed}
@@ -9,14 +9,14 @@ use Rattle.property.proofs.property.Properties.drop_allowed.Goals as goal
 pub loop-p-preserved : goal.loop-p-preserved
 loop-p-preserved c =
     sym (look_more (property_of c.args.block.now) c.items-items.result.now c.loop-p.p-index _ c.loop-p-test.true drop_key
-    (sym (c.if-is-drop-key.ensures ∙ ap (λ b. same_bytes b drop_key) c.bytes.ensures))) ∙ c.loop-p.invariant
+    (sym (c.if-is_drop_key.ensures ∙ ap (λ b. same_bytes b drop_key) c.bytes.ensures))) ∙ c.loop-p.invariant
 
-pub returns-then-is-drop-key : goal.returns-then-is-drop-key
-returns-then-is-drop-key c =
-    c.is-truthy.ensures
-    ∙ ap drop_allowed (ap Some c.bytes-then-is-drop-key.ensures
+pub returns-then-is_drop_key : goal.returns-then-is_drop_key
+returns-then-is_drop_key c =
+    c.is_truthy.ensures
+    ∙ ap drop_allowed (ap Some c.bytes-then-is_drop_key.ensures
     ∙ (sym (look_here (property_of c.args.block.now) c.items-items.result.now c.loop-p.p-index _ c.loop-p-test.true drop_key
-    (sym (c.if-is-drop-key.ensures ∙ ap (λ b. same_bytes b drop_key) c.bytes.ensures)))
+    (sym (c.if-is_drop_key.ensures ∙ ap (λ b. same_bytes b drop_key) c.bytes.ensures)))
     ∙ (c.loop-p.invariant ∙ ap (λ l. look_up drop_key (map (property_of c.args.block.now) l)) c.items-items.ensures)))
 
 pub returns : goal.returns

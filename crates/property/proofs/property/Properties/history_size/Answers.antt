@@ -1,4 +1,4 @@
-use Rattle.std.proofs.Common.{◌≡◌, map, Some, sym, ap, ◌∙◌}
+use Rattle.std.proofs.Common.{map, Some, sym, ap, ◌∙◌}
 use Rattle.model.specs.Bytes.{same_bytes}
 use Rattle.model.specs.Settings.{history_key}
 use Rattle.model.specs.Settings.{effective_size}
@@ -10,15 +10,15 @@ use Rattle.property.proofs.property.Properties.history_size.Goals as goal
 pub loop-p-preserved : goal.loop-p-preserved
 loop-p-preserved c =
     sym (look_more (property_of c.args.block.now) c.items-items.result.now c.loop-p.p-index _ c.loop-p-test.true history_key
-    (sym (c.if-is-history-key.ensures ∙ ap (λ b. same_bytes b history_key) c.bytes.ensures))) ∙ c.loop-p.invariant
+    (sym (c.if-is_history_key.ensures ∙ ap (λ b. same_bytes b history_key) c.bytes.ensures))) ∙ c.loop-p.invariant
 
-pub returns-then-is-history-key : goal.returns-then-is-history-key
+pub returns-then-is_history_key : goal.returns-then-is_history_key
 unfolding history_size
-returns-then-is-history-key c =
+returns-then-is_history_key c =
     c.effective_size.ensures
-    ∙ ap effective_size (ap Some c.bytes-then-is-history-key.ensures
+    ∙ ap effective_size (ap Some c.bytes-then-is_history_key.ensures
     ∙ (sym (look_here (property_of c.args.block.now) c.items-items.result.now c.loop-p.p-index _ c.loop-p-test.true history_key
-    (sym (c.if-is-history-key.ensures ∙ ap (λ b. same_bytes b history_key) c.bytes.ensures)))
+    (sym (c.if-is_history_key.ensures ∙ ap (λ b. same_bytes b history_key) c.bytes.ensures)))
     ∙ (c.loop-p.invariant ∙ ap (λ l. look_up history_key (map (property_of c.args.block.now) l)) c.items-items.ensures)))
 
 pub returns : goal.returns

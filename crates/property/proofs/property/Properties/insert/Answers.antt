@@ -6,5 +6,5 @@ pub returns : goal.returns
 returns c =
     record {
       held = refl;
-      records = inserted_by_turning c.args.self.now.records.now c.args.self.now.held c.args.at c.args.property c.requires.0 c.requires.1 _ c.rotate-right.new.self refl c.rotate-right.ensures.after;
+      records = inserted_by_turning c.args.self.now.records.now c.args.self.now.held c.args.at c.args.property c.requires.0 c.requires.1 _ c.rotate_right.new.self refl c.rotate_right.ensures.after;
     }

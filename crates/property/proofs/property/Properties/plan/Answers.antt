@@ -4,20 +4,20 @@ use Rattle.property.specs.Outcomes.{planned}
 use Rattle.property.proofs.Decided.{broken, plan_refused, plan_full, plan_fits}
 use Rattle.property.proofs.property.Properties.plan.Goals as goal
 
-pub overflow-sub-self : goal.overflow-sub-self
-overflow-sub-self c = omega (arith, ap length c.items-items.ensures, length-take c.args.self.now.held c.args.self.now.records.now)
+pub overflow_sub-self : goal.overflow_sub-self
+overflow_sub-self c = omega (arith, ap length c.items-items.ensures, length-take c.args.self.now.held c.args.self.now.records.now)
 
-pub returns-in-err-check : goal.returns-in-err-check
-returns-in-err-check c =
-    broken c.args.block.now c.args.updates.now c.args.self.now (λ b. b) (planned c.args.block.now c.args.updates.now c.args.self.now) _ c.from-residual.result
-    (plan_refused c.args.block.now c.args.updates.now c.args.self.now c.in-err-check.was c.check.ensures) c.from-residual.ensures.1
+pub returns-in_err-check : goal.returns-in_err-check
+returns-in_err-check c =
+    broken c.args.block.now c.args.updates.now c.args.self.now (λ b. b) (planned c.args.block.now c.args.updates.now c.args.self.now) _ c.from_residual.result
+    (plan_refused c.args.block.now c.args.updates.now c.args.self.now c.in_err-check.was c.check.ensures) c.from_residual.ensures.1
 
 pub returns-then-added-self : goal.returns-then-added-self
 returns-then-added-self c =
-    plan_full c.args.block.now c.args.updates.now c.args.self.now c.items-items.result.now c.effect-added.result.0 c.items-items.ensures c.in-ok-check.ensures.1 c.effect-added.ensures.added
+    plan_full c.args.block.now c.args.updates.now c.args.self.now c.items-items.result.now c.effect-added.result.0 c.items-items.ensures c.in_ok-check.ensures.1 c.effect-added.ensures.added
     c.if-added-self.true
 
 pub returns : goal.returns
 returns c =
-    plan_fits c.args.block.now c.args.updates.now c.args.self.now c.items-items.result.now c.effect-added.result.0 c.items-items.ensures c.in-ok-check.ensures.1 c.effect-added.ensures.added
+    plan_fits c.args.block.now c.args.updates.now c.args.self.now c.items-items.result.now c.effect-added.result.0 c.items-items.ensures c.in_ok-check.ensures.1 c.effect-added.ensures.added
     c.effect-added.result.1 c.if-added-self.false c.effect-added.ensures.changed

@@ -1,4 +1,4 @@
-use Rattle.std.proofs.Common.{◌≡◌, map, length, take, refl, ap, ◌∙◌, arith}
+use Rattle.std.proofs.Common.{map, take, refl, ap, ◌∙◌, arith}
 use Rattle.std.proofs.lemmas.List.{length-take}
 use Rattle.property.specs.Meaning.{property_of}
 use Rattle.property.proofs.Stored.{found_inside, stored_old, free, place_inside, stored_new}

@@ -1,4 +1,4 @@
-use Rattle.std.proofs.Common.{◌≡◌, not, map, Ok, sym, refl, ap, ◌∙◌, arith}
+use Rattle.std.proofs.Common.{not, map, Ok, sym, refl, ap, ◌∙◌, arith}
 use Rattle.std.proofs.lemmas.List.{take_all}
 use Rattle.std.proofs.lemmas.Bool.{false≢true}
 use Rattle.model.specs.Bytes.{same_list}
@@ -11,13 +11,13 @@ use Rattle.property.proofs.Effects.{put_next, put_has_room}
 use Rattle.property.proofs.Rests.{keeps_itself, keeps_on}
 use Rattle.property.proofs.property.Properties.set.Goals as goal
 
-pub returns-in-err-plan : goal.returns-in-err-plan
-returns-in-err-plan c =
+pub returns-in_err-plan : goal.returns-in_err-plan
+returns-in_err-plan c =
     record {
       answer =
-          broken c.args.block.now c.args.updates.now c.args.self.now (λ _. properties_of c.args.block.now c.args.self.now) (after_updates c.args.block.now c.args.updates.now c.args.self.now) _ c.from-residual.result
-          (then_err (after_updates c.args.block.now c.args.updates.now c.args.self.now) (λ ps. not (same_list same_property ps (properties_of c.args.block.now c.args.self.now))) _ c.in-err-plan.ensures)
-          c.from-residual.ensures.1;
+          broken c.args.block.now c.args.updates.now c.args.self.now (λ _. properties_of c.args.block.now c.args.self.now) (after_updates c.args.block.now c.args.updates.now c.args.self.now) _ c.from_residual.result
+          (then_err (after_updates c.args.block.now c.args.updates.now c.args.self.now) (λ ps. not (same_list same_property ps (properties_of c.args.block.now c.args.self.now))) _ c.in_err-plan.ensures)
+          c.from_residual.ensures.1;
       refused = λ _. refl;
       rest = keeps_itself c.args.self.now;
     }
@@ -27,7 +27,7 @@ loop-p-init c = (refl, keeps_itself c.args.self.now)
 
 pub put-requires : goal.put-requires
 put-requires c =
-    let ok = accepted c.args.block.now c.args.updates.now c.args.self.now c.in-ok-plan.ensures in
+    let ok = accepted c.args.block.now c.args.updates.now c.args.self.now c.in_ok-plan.ensures in
     put_has_room (property_of c.args.block.now) c.args.updates.now (properties_of c.args.block.now c.args.self.now) c.loop-p.p-index _ c.loop-p-test.true
     (properties_of c.args.block.now c.loop-p.self) (room_of c.loop-p.self) c.loop-p.invariant.0 (omega (arith, ok.1, c.loop-p.invariant.1.room))
 
@@ -41,7 +41,7 @@ loop-p-preserved c = (
 
 pub returns : goal.returns
 returns c =
-    let ok = accepted c.args.block.now c.args.updates.now c.args.self.now c.in-ok-plan.ensures in
+    let ok = accepted c.args.block.now c.args.updates.now c.args.self.now c.in_ok-plan.ensures in
     record {
       answer =
           ap Ok (c.loop-p.invariant.0
