@@ -1,5 +1,5 @@
 -- Building, as the model has it. Assumes nothing.
-use Rattle.std.proofs.Common.{◌≡◌, ℕ, suc, ◌+◌, ◌<◌, ◌≤◌, Bool, true, false, cond, not, ◌&&◌, List, [], ◌∷◌, ◌++◌, map, length, get_or, take, drop, ℤ, Some, None, Ok, Err, Option, Result, sym, refl, ap, ◌∙◌, subst, inl, inr, zero-add, arith}
+use Rattle.std.proofs.Common.{◌≡◌, ℕ, ◌+◌, ◌<◌, Bool, true, false, cond, not, ◌&&◌, List, [], ◌∷◌, ◌++◌, map, length, get_or, take, drop, ℤ, Some, None, Ok, Err, Option, sym, refl, ap, ◌∙◌, subst, inl, inr, zero-add, arith}
 use mathlib.Core.List.{map-map}
 use Rattle.std.specs.Option.{option_map}
 use Rattle.std.proofs.lemmas.List.{length-map, length-take, length-append, take_more, take_at, map_push}
@@ -16,7 +16,7 @@ use Rattle.model.specs.Build.{build, build_at, built_metadata, kept_versions, ke
 use Rattle.register.specs.declared.numbered.Identified as identified
 use Rattle.register.specs.declared.numbered.Numbered as numbered
 use Rattle.register.specs.declared.table.Table.{Table}
-use Rattle.register.specs.Tables.{held_in, room, is_full, after_push, kept_from, with_one_more}
+use Rattle.register.specs.Tables.{held_in, room, is_full, kept_from, with_one_more}
 use Rattle.schema.specs.declared.kind.SchemaKind as schema_kind
 use Rattle.version.specs.declared.view_version.ViewVersion.{ViewVersion}
 use Rattle.version.specs.declared.view_version.ViewVersionLog.{ViewVersionLog}
@@ -30,7 +30,7 @@ use Rattle.view.specs.declared.view_update.ViewUpdate.TheVariants.{AssignUuid, S
 use Rattle.view.specs.Meaning.{Reading, reading, model_of, metadata, change_of, schema_of}
 use Rattle.view.specs.Steps.{with_log, with_versions}
 use Rattle.view.specs.Finished.{adds_version, logged, changes_of, HoldsBuild}
-use Rattle.view.proofs.Recording.{full_is, one_more}
+use Rattle.view.proofs.Recording.{one_more}
 
 -- one more change
 additions_push : {C : Type 0} (cs : List (Change C)) (c : Change C) → additions (cs ++ c ∷ []) ≡ additions cs + additions (c ∷ [])

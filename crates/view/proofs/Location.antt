@@ -1,7 +1,7 @@
 -- Setting the location, as the model has it. Assumes nothing.
-use Rattle.std.proofs.Common.{◌≡◌, true, false, cond, ℤ, Some, None, Ok, Err, sym, ap, ◌∙◌}
+use Rattle.std.proofs.Common.{◌≡◌, true, false, ℤ, Ok, Err, sym, ap, ◌∙◌}
 use Rattle.model.specs.Bytes.{Bytes, same_bytes, trimmed}
-use Rattle.model.specs.State.{set_location, location_set}
+use Rattle.model.specs.State.{set_location}
 use Rattle.model.specs.Updates.{recorded}
 use Rattle.model.specs.Edits.{edit, after_set_location}
 use Rattle.text.specs.declared.text.Text.{Text}

@@ -1,5 +1,5 @@
 -- The search of a register, seen through what its elements mean. Assumes nothing.
-use Rattle.std.proofs.Common.{◌≡◌, Bool, true, false, cond, List, [], ◌∷◌, map, ℤ, filter, sym, refl, ap, ◌∙◌, inl, inr}
+use Rattle.std.proofs.Common.{◌≡◌, Bool, List, [], ◌∷◌, map, ℤ, filter, refl, ap, ◌∙◌, inl, inr}
 use mathlib.Core.List.{map-map}
 use Rattle.std.proofs.lemmas.Bool.{cases_Bool}
 use Rattle.model.specs.Ids.{lowest, lowest_id_where}

@@ -9,7 +9,6 @@ use Rattle.model.specs.State.{VersionIn, State, version_added}
 use Rattle.model.specs.Updates as updates
 use Rattle.model.specs.Updates.{version_with_id, with_schema_id, stored_version, recorded, state_of, with_metadata}
 use Rattle.model.specs.Edits.{too_early_for, equal_version, with_next_version_id, as_recorded, enter, enter_under, reuse_or_add_version, after_add_version}
-use Rattle.register.specs.declared.table.Table.{Table}
 use Rattle.register.specs.declared.fault.RegisterFault.{RegisterFault}
 use Rattle.register.specs.declared.fault.RegisterFault.TheVariants.{NoIdLeft, Full}
 use Rattle.register.specs.Tables.{held_in, room, is_full, with_one_more, after_push}

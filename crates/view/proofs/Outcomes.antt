@@ -1,5 +1,5 @@
 -- The answers of a call as the model has them: accepted, left by a `?`, or ended by recording a change. Assumes nothing.
-use Rattle.std.proofs.Common.{◌≡◌, ℕ, Bool, true, false, cond, ℤ, is_err, IsErrAnd, Ok, Err, Result, sym, refl, ap, ◌∙◌, inl, inr, arith}
+use Rattle.std.proofs.Common.{◌≡◌, ℕ, true, false, cond, ℤ, is_err, IsErrAnd, Ok, Err, Result, sym, ap, ◌∙◌, inl, inr, arith}
 use Rattle.std.proofs.lemmas.Bool.{cases_Bool, true≢false}
 use Rattle.model.specs.State.{State}
 use Rattle.model.specs.Updates.{recorded}

@@ -1,11 +1,8 @@
 -- A push and the recording of a change, as the model has them. Assumes nothing.
-use Rattle.std.proofs.Common.{◌≡◌, ℕ, ◌+◌, ◌<◌, min, Bool, true, false, cond, leb, List, [], ◌∷◌, ◌++◌, map, length, take, set, Ok, Err, Result, sym, refl, ap, ◌∙◌, inl, inr, arith, length-set}
+use Rattle.std.proofs.Common.{◌≡◌, ◌<◌, true, false, [], ◌∷◌, ◌++◌, map, length, Ok, Err, ap, ◌∙◌, arith, length-set}
 use Rattle.std.proofs.lemmas.List.{length-take, length-map, take_more_set, map_push}
-use Rattle.std.proofs.lemmas.Bool.Decides.{nat_tests, leb_tells}
-use Rattle.std.proofs.lemmas.Bool.{cases_Bool}
-use Rattle.model.specs.Refusals as refusals
-use Rattle.model.specs.Refusals.{full, fault, limit_reached, changes_part}
-use Rattle.model.specs.State.{State, Change}
+use Rattle.std.proofs.lemmas.Bool.Decides.{nat_tests}
+use Rattle.model.specs.Refusals.{full}
 use Rattle.model.specs.Updates.{recorded}
 use Rattle.register.specs.declared.table.Table.{Table}
 use Rattle.register.specs.Tables.{held_in, room, is_full, with_one_more, after_push}
@@ -13,7 +10,7 @@ use Rattle.fault.specs.Layers.{changes_fault}
 use Rattle.view.specs.declared.view_metadata_builder.ViewMetadataBuilder.{ViewMetadataBuilder}
 use Rattle.view.specs.declared.view_update.ViewUpdate.{ViewUpdate}
 use Rattle.view.specs.Meaning.{Reading, model_of, change_of}
-use Rattle.view.specs.Steps.{with_changes, record_answer}
+use Rattle.view.specs.Steps.{with_changes}
 
 -- a table is full where the list that it holds is, as the model has it
 pub full_is : {X Y : Type 0} (f : X → Y) (t : Table X) → full (room t) (map f (held_in t)) ≡ is_full t

@@ -1,19 +1,17 @@
 -- Adding a schema, as the model has it. Assumes nothing.
-use Rattle.std.proofs.Common.{◌≡◌, ℕ, Bool, true, false, cond, List, [], ◌∷◌, ◌++◌, map, ℤ, pos, Some, None, Ok, Err, Option, Result, sym, refl, ap, ◌∙◌, inl, inr, arith, length-set}
+use Rattle.std.proofs.Common.{◌≡◌, ℕ, true, false, cond, List, [], ◌∷◌, ◌++◌, map, ℤ, pos, Some, None, Ok, Err, Option, Result, sym, ap, ◌∙◌, inl, inr, length-set}
 use mathlib.Core.List.{map-map}
-use Rattle.std.proofs.lemmas.Bool.{cases_Bool}
 use Rattle.model.specs.Bytes.{Bytes}
 use Rattle.model.specs.Ids.{is_id, next_id, ids_used_up, lowest_id_where}
 use Rattle.model.specs.Version.{Schema, schema_ids}
-use Rattle.model.specs.Refusals.{Fault, refuse, refuse_with, fault, no_id_left, limit_reached, schemas_part, full}
-use Rattle.model.specs.State.{SchemaIn, State, schema_added, add_schema}
+use Rattle.model.specs.Refusals.{Fault, refuse_with, fault, schemas_part}
+use Rattle.model.specs.State.{SchemaIn, State, schema_added}
 use Rattle.model.specs.Updates as updates
 use Rattle.model.specs.Updates.{schema_with_id, stored_schema, recorded, state_of}
-use Rattle.model.specs.Edits.{edit, after_add_schema, reuse_or_add_schema}
+use Rattle.model.specs.Edits.{after_add_schema, reuse_or_add_schema}
 use Rattle.register.specs.declared.numbered.Identified as identified
 use Rattle.register.specs.declared.numbered.Numbered as numbered
 use Rattle.register.specs.declared.fault.RegisterFault.{RegisterFault}
-use Rattle.register.specs.declared.fault.RegisterFault.TheVariants.{NoIdLeft, Full}
 use Rattle.register.specs.Tables.{held_in, room, is_full, with_one_more, after_push}
 use Rattle.register.specs.Registers.{same_id, new_id, held_ids, pushed}
 use Rattle.register.specs.Faults.{register_number}

@@ -1,6 +1,6 @@
 -- Setting properties and assigning a uuid, as the model has them. Assumes nothing.
-use Rattle.std.proofs.Common.{◌≡◌, ℕ, Bool, true, false, cond, not, List, map, ℤ, Ok, Err, Decides, Result, sym, refl, ap, ◌∙◌, arith}
-use Rattle.std.specs.Cmp.Lexicographic.{Matches}
+use Rattle.std.proofs.Common.{◌≡◌, ℕ, Bool, true, false, not, List, map, ℤ, Ok, Err, nat_eq, Result, sym, refl, ap, ◌∙◌, arith}
+use Rattle.std.specs.Cmp.Lexicographic.{pointwise}
 use Rattle.std.proofs.lemmas.Slice.Eq.{slice_eq-Decides, compares_Decides}
 use Rattle.std.proofs.lemmas.Bool.Decides.{same_from_decides, Decides-eqb}
 use Rattle.model.specs.Bytes.{Bytes, same_bytes, same_list}
@@ -20,13 +20,13 @@ use Rattle.property.specs.Meaning.{property_in, properties_of, room_of}
 use Rattle.property.specs.Outcomes.{answered, after_updates, planned}
 use Rattle.view.specs.declared.view_metadata_builder.ViewMetadataBuilder.{ViewMetadataBuilder}
 use Rattle.view.specs.declared.view_update.ViewUpdate.{ViewUpdate}
-use Rattle.view.specs.declared.view_update.ViewUpdate.TheVariants.{AssignUuid, SetProperties}
+use Rattle.view.specs.declared.view_update.ViewUpdate.TheVariants.{AssignUuid}
 use Rattle.view.specs.Meaning.{Reading, model_of, change_of}
 use Rattle.view.specs.Steps.{with_uuid, with_properties}
 use Rattle.view.proofs.Recording.{full_is}
 
 -- what == on arrays of bytes answers is the model's test
-pub same_arrays : (xs ys : Bytes) (r : Bool) → Matches (λ (a b : ℕ) (t : Bool). Decides t (a ≡ b)) xs ys r → same_bytes xs ys ≡ r
+pub same_arrays : (xs ys : Bytes) (r : Bool) → r ≡ pointwise nat_eq xs ys → same_bytes xs ys ≡ r
 same_arrays xs ys r m =
     same_from_decides (same_bytes xs ys) r
     (compares_Decides same_bytes (record { empty = refl; shorter = λ _ _. refl; longer = λ _ _. refl; heads = λ _ _ _ _. refl }) xs ys)

@@ -1,5 +1,5 @@
 -- Beginning a view and upgrading its format, as the model has them. Assumes nothing.
-use Rattle.std.proofs.Common.{◌≡◌, ℕ, Bool, true, false, cond, not, eqb, List, [], map, length, take, ℤ, is_ok, IsErrAnd, None, Ok, Err, Result, sym, refl, ap, ◌∙◌, arith}
+use Rattle.std.proofs.Common.{◌≡◌, ℕ, Bool, true, false, not, eqb, List, [], map, take, ℤ, IsErrAnd, None, Ok, Err, Result, sym, refl, ap, ◌∙◌, arith}
 use Rattle.model.specs.Bytes.{Bytes}
 use Rattle.model.specs.Ids.{last_added}
 use Rattle.model.specs.Version.{Property, Version, LogEntry, Schema}
@@ -9,8 +9,6 @@ use Rattle.model.specs.State.{Change, State, upgrade_format}
 use Rattle.model.specs.Updates.{metadata_of, state_of}
 use Rattle.model.specs.Start.{to_begin, begin_or_open, empty}
 use Rattle.model.specs.Edits.{edit}
-use Rattle.register.specs.declared.table.Table.{Table}
-use Rattle.register.specs.Tables.{held_in, room}
 use Rattle.fault.specs.declared.fault.Fault.{Fault}
 use Rattle.fault.specs.Layers.{text_fault}
 use Rattle.fault.specs.Meaning.{fault_of}

@@ -1,5 +1,5 @@
 -- From the code's values to the model's. Assumes nothing.
-use Rattle.std.specs.Prelude.{◌≡◌, ℕ, Bool, List, map, ℤ, Some, None, Ok, Err, Option, Result}
+use Rattle.std.specs.Prelude.{◌≡◌, ℕ, Bool, map, ℤ, Some, Ok, Err, Option, Result}
 use Rattle.std.specs.Option.{option_map}
 use Rattle.model.specs.Bytes.{Bytes}
 use Rattle.model.specs.Version.{Schema}

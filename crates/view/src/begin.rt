@@ -88,7 +88,7 @@ impl<'t> Beginning<'t> {
         properties: &'a mut [Property; MAX_PROPERTIES],
         changes: &'a mut [ViewUpdate<'v, S>; MAX_CHANGES],
     ) -> ViewMetadataBuilder<'t, 'a, 'v, S>
-        ensures model { model_of (reading S.Identified S.Numbered S.SchemaKind) result ≡ started (empty self.entry.uuid) }
+        ensures model { model_of (reading S.Identified S.Numbered.own S.SchemaKind.own) result ≡ started (empty self.entry.uuid) }
         ensures text { result.text.now ≡ self.entry.text.now }
         ensures schemas { result.schemas.table.slots.now ≡ schemas.old }
         ensures versions { result.versions.table.slots.now ≡ versions.old }
@@ -126,7 +126,7 @@ impl<'t> Beginning<'t> {
 impl<'t, 'a, 'v, S: SchemaKind> ViewMetadataBuilder<'t, 'a, 'v, S> {
     // Accepts the one format version; there is nothing to change or record.
     pub fn upgrade_format_version(&mut self, format_version: u32) -> Result<(), Fault>
-        ensures { (clock : ℤ) → Applied (reading S.Identified S.Numbered S.SchemaKind) (upgrade_format format_version) clock self.old result self.new }
+        ensures { (clock : ℤ) → Applied (reading S.Identified S.Numbered.own S.SchemaKind.own) (upgrade_format format_version) clock self.old result self.new }
     {
         check_format(format_version)
     }

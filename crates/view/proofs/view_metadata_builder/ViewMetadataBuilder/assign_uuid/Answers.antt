@@ -1,4 +1,4 @@
-use Rattle.std.proofs.Common.{◌≡◌, refl, ◌∙◌}
+use Rattle.std.proofs.Common.{refl, ◌∙◌}
 use Rattle.fault.specs.Meaning.{fault_of}
 use Rattle.view.specs.Meaning.{reading}
 use Rattle.view.specs.Steps.{with_uuid}
@@ -11,20 +11,20 @@ pub returns-then-eq : goal.returns-then-eq
 returns-then-eq g c clock =
     let G = reading g.S.Identified g.S.Numbered g.S.SchemaKind in
     let b = c.args.self.now in
-    went G fault_of _ b tt b (uuid_kept G b c.args.uuid clock (same_arrays _ _ _ c.eq.ensures ∙ c.if-eq.true))
+    went G fault_of _ b tt b (uuid_kept G b c.args.uuid clock (same_arrays c.args.uuid b.uuid _ c.eq.ensures ∙ c.if-eq.true))
 
-pub returns-in-err-record : goal.returns-in-err-record
-returns-in-err-record g c clock =
+pub returns-in_err-record : goal.returns-in_err-record
+returns-in_err-record g c clock =
     let G = reading g.S.Identified g.S.Numbered g.S.SchemaKind in
     let b = c.args.self.now in
     unrecorded G fault_of _ b (AssignUuid c.args.uuid) c.record.result c.record.ensures.answer (with_uuid c.args.uuid b) refl
-    (uuid_new G b c.args.uuid clock (same_arrays _ _ _ c.eq.ensures ∙ c.if-eq.false))
-    c.from-residual.result _ _ c.in-err-record.was c.from-residual.ensures.1 c.record.ensures.builder
+    (uuid_new G b c.args.uuid clock (same_arrays c.args.uuid b.uuid _ c.eq.ensures ∙ c.if-eq.false))
+    c.from_residual.result _ _ c.in_err-record.was c.from_residual.ensures.1 c.record.ensures.builder
 
 pub returns : goal.returns
 returns g c clock =
     let G = reading g.S.Identified g.S.Numbered g.S.SchemaKind in
     let b = c.args.self.now in
     noted G fault_of _ b (AssignUuid c.args.uuid) c.record.result c.record.ensures.answer (with_uuid c.args.uuid b) refl
-    (uuid_new G b c.args.uuid clock (same_arrays _ _ _ c.eq.ensures ∙ c.if-eq.false))
-    tt _ _ c.in-ok-record.was (λ j. with_uuid c.args.uuid (c.record.ensures.builder j))
+    (uuid_new G b c.args.uuid clock (same_arrays c.args.uuid b.uuid _ c.eq.ensures ∙ c.if-eq.false))
+    tt _ _ c.in_ok-record.was (λ j. with_uuid c.args.uuid (c.record.ensures.builder j))

@@ -1,4 +1,4 @@
-use Rattle.std.proofs.Common.{◌≡◌, Bool, true, false, not, map, ℤ, Some, None, Ok, Err, sym, refl, ap, ◌∙◌, w32, w64, rules}
+use Rattle.std.proofs.Common.{true, not, Some, None, Ok, Err, sym, ap, ◌∙◌, w32, rules}
 use Rattle.std.proofs.lemmas.Int.{to_z-of_z}
 use Rattle.model.specs.Ids.{is_id}
 use Rattle.fault.specs.Layers.{schema_fault}
@@ -11,21 +11,21 @@ pub returns-in-Some : goal.returns-in-Some
 returns-in-Some g c =
     let b = c.args.self.now in
     let z = to_z-of_z w32 c.in-Some.id (search rules) in
-    (λ h. Ok (z h, not ((c.is-last.ensures ∙ ap (is_id b.last_added_schema_id) z) h)))
-    ∙ schema_chosen g.S.Identified g.S.Numbered g.S.SchemaKind b c.args.schema.now (Some c.in-Some.id) c.in-ok-check.ensures (sym c.in-Some.is ∙ c.lowest-same.ensures)
+    (λ h. Ok (z h, not ((c.is_last.ensures ∙ ap (is_id b.last_added_schema_id) z) h)))
+    ∙ schema_chosen g.S.Identified g.S.Numbered g.S.SchemaKind b c.args.schema.now (Some c.in-Some.id) c.in_ok-check.ensures (sym c.in-Some.is ∙ c.lowest_same.ensures)
 
-pub returns-in-err-next-id : goal.returns-in-err-next-id
-returns-in-err-next-id g c =
+pub returns-in_err-next_id-in-None : goal.returns-in_err-next_id-in-None
+returns-in_err-next_id-in-None g c =
     let b = c.args.self.now in
-    let f = c.in-err-next-id.field-0.0 in
-    meant_by schema_fault _ _ (err_means schema_fault _ (Register f) c.from-residual-in-err-next-id.ensures.1)
-    ∙ (schema_new g.S.Identified g.S.Numbered g.S.SchemaKind b c.args.schema.now g.met.S.SchemaKind.first (Err f) (sym c.in-err-next-id.was ∙ c.next_id.ensures)
-    ∙ schema_chosen g.S.Identified g.S.Numbered g.S.SchemaKind b c.args.schema.now None c.in-ok-check.ensures (sym c.in-None.is ∙ c.lowest-same.ensures))
+    let f = c.in_err-next_id-in-None.field-0.0 in
+    meant_by schema_fault _ _ (err_means schema_fault _ (Register f) c.from_residual-in_err-next_id-in-None.ensures.1)
+    ∙ (schema_new g.S.Identified g.S.Numbered g.S.SchemaKind b c.args.schema.now g.met.S.SchemaKind.first (Err f) (sym c.in_err-next_id-in-None.was ∙ c.next_id.ensures)
+    ∙ schema_chosen g.S.Identified g.S.Numbered g.S.SchemaKind b c.args.schema.now None c.in_ok-check.ensures (sym c.in-None.is ∙ c.lowest_same.ensures))
 
-pub returns-in-ok-next-id : goal.returns-in-ok-next-id
-returns-in-ok-next-id g c =
+pub returns-in_ok-next_id-in-None : goal.returns-in_ok-next_id-in-None
+returns-in_ok-next_id-in-None g c =
     let b = c.args.self.now in
-    let j = c.in-ok-next-id.field-0 in
+    let j = c.in_ok-next_id-in-None.field-0 in
     ap (λ i. Ok (i, true)) (to_z-of_z w32 j (search rules))
-    ∙ (schema_new g.S.Identified g.S.Numbered g.S.SchemaKind b c.args.schema.now g.met.S.SchemaKind.first (Ok j) (sym c.in-ok-next-id.was ∙ c.next_id.ensures)
-    ∙ schema_chosen g.S.Identified g.S.Numbered g.S.SchemaKind b c.args.schema.now None c.in-ok-check.ensures (sym c.in-None.is ∙ c.lowest-same.ensures))
+    ∙ (schema_new g.S.Identified g.S.Numbered g.S.SchemaKind b c.args.schema.now g.met.S.SchemaKind.first (Ok j) (sym c.in_ok-next_id-in-None.was ∙ c.next_id.ensures)
+    ∙ schema_chosen g.S.Identified g.S.Numbered g.S.SchemaKind b c.args.schema.now None c.in_ok-check.ensures (sym c.in-None.is ∙ c.lowest_same.ensures))

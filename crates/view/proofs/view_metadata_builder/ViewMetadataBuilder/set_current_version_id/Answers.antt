@@ -1,6 +1,6 @@
-use Rattle.std.proofs.Common.{◌≡◌, true, false, cond, map, ℤ, Some, None, sym, refl, ap, ◌∙◌, w32, w64, to_z, of_z, rules}
+use Rattle.std.proofs.Common.{◌≡◌, true, false, cond, map, Some, sym, refl, ap, ◌∙◌, w32, w64, to_z, of_z, rules}
 use Rattle.std.proofs.lemmas.Int.{to_z-of_z}
-use Rattle.model.specs.Ids.{holds, same_number, is_id, last_added, resolved_id}
+use Rattle.model.specs.Ids.{holds, is_id, last_added, resolved_id}
 use Rattle.model.specs.State.{entered}
 use Rattle.model.specs.Edits.{log_entry}
 use Rattle.model.proofs.Basics.{same_eq}
@@ -14,69 +14,69 @@ use Rattle.view.proofs.Outcomes.{left_by, went, unrecorded, noted}
 use Rattle.view.proofs.CurrentIds.{current_none, current_kept, current_absent, current_new}
 use Rattle.view.proofs.view_metadata_builder.ViewMetadataBuilder.set_current_version_id.Goals as goal
 
-pub returns-in-default : goal.returns-in-default
-returns-in-default g c =
+pub returns-in_default : goal.returns-in_default
+returns-in_default g c =
     let G = reading g.S.Identified g.S.Numbered g.S.SchemaKind in
     let b = c.args.self.now in
-    let v = to_z-of_z w32 c.args.version-id c.ranges.version-id in
-    left_by G fault_of _ b _ b _ c.own-fault.ensures refl
-    (current_none G b c.args.clock c.args.version-id (ap (λ i. resolved_id i b.last_added_version_id) (sym v) ∙ (sym c.resolved.ensures ∙ c.in-default.is)))
+    let v = to_z-of_z w32 c.args.version_id c.ranges.version_id in
+    left_by G fault_of _ b _ b _ c.own_fault.ensures refl
+    (current_none G b c.args.clock c.args.version_id (ap (λ i. resolved_id i b.last_added_version_id) (sym v) ∙ (sym c.resolved.ensures ∙ c.in_default.is)))
 
 pub returns-then-id-self : goal.returns-then-id-self
 returns-then-id-self g c =
     let G = reading g.S.Identified g.S.Numbered g.S.SchemaKind in
     let b = c.args.self.now in
-    let v = to_z-of_z w32 c.args.version-id c.ranges.version-id in
+    let v = to_z-of_z w32 c.args.version_id c.ranges.version_id in
     let same : c.in-Some.id ≡ b.current_version_id = sym (to_z-of_z w32 c.in-Some.id (search rules)) ∙ (ap (to_z w32) c.if-id-self.true ∙ to_z-of_z w32 b.current_version_id (search rules)) in
     went G fault_of _ b tt b
-    (current_kept G b c.args.clock c.args.version-id c.in-Some.id (ap (λ i. resolved_id i b.last_added_version_id) (sym v) ∙ (sym c.resolved.ensures ∙ c.in-Some.is)) (same_eq c.in-Some.id b.current_version_id same))
+    (current_kept G b c.args.clock c.args.version_id c.in-Some.id (ap (λ i. resolved_id i b.last_added_version_id) (sym v) ∙ (sym c.resolved.ensures ∙ c.in-Some.is)) (same_eq c.in-Some.id b.current_version_id same))
 
-pub returns-then-not-holds-id : goal.returns-then-not-holds-id
-returns-then-not-holds-id g c =
+pub returns-then-not-holds_id : goal.returns-then-not-holds_id
+returns-then-not-holds_id g c =
     let G = reading g.S.Identified g.S.Numbered g.S.SchemaKind in
     let b = c.args.self.now in
-    let v = to_z-of_z w32 c.args.version-id c.ranges.version-id in
+    let v = to_z-of_z w32 c.args.version_id c.ranges.version_id in
     let z = to_z-of_z w32 c.in-Some.id (search rules) in
     let other = same_no c.in-Some.id b.current_version_id (λ e. c.if-id-self.false (ap (of_z w32) e)) in
     let absent : holds c.in-Some.id (map (λ x. x.version_id) (held_in b.versions.table)) ≡ false =
-    sym (c.holds-id.ensures ∙ (λ t. holds (z t) (map (λ x. x.version_id) (c.items.ensures t)))) ∙ c.if-not-holds-id.true in
-    left_by G fault_of _ b _ b _ c.own-fault-then-not-holds-id.ensures refl
-    (current_absent G b c.args.clock c.args.version-id c.in-Some.id (ap (λ i. resolved_id i b.last_added_version_id) (sym v) ∙ (sym c.resolved.ensures ∙ c.in-Some.is)) other absent)
+    sym (c.holds_id.ensures ∙ (λ t. holds (z t) (map (λ x. x.version_id) (c.items.ensures t)))) ∙ c.if-not-holds_id.true in
+    left_by G fault_of _ b _ b _ c.own_fault-then-not-holds_id.ensures refl
+    (current_absent G b c.args.clock c.args.version_id c.in-Some.id (ap (λ i. resolved_id i b.last_added_version_id) (sym v) ∙ (sym c.resolved.ensures ∙ c.in-Some.is)) other absent)
 
-pub returns-in-err-record : goal.returns-in-err-record
-returns-in-err-record g c =
+pub returns-in_err-record : goal.returns-in_err-record
+returns-in_err-record g c =
     let G = reading g.S.Identified g.S.Numbered g.S.SchemaKind in
     let b = c.args.self.now in
     let j = c.in-Some.id in
-    let e = c.log-entry-entry.result in
-    let k = c.as-recorded-view-version-id.result in
-    let v = to_z-of_z w32 c.args.version-id c.ranges.version-id in
+    let e = c.log_entry-entry.result in
+    let k = c.as_recorded-view_version_id.result in
+    let v = to_z-of_z w32 c.args.version_id c.ranges.version_id in
     let z = to_z-of_z w32 c.in-Some.id (search rules) in
     let t = to_z-of_z w64 c.args.clock c.ranges.clock in
     let other = same_no c.in-Some.id b.current_version_id (λ s. c.if-id-self.false (ap (of_z w32) s)) in
     let there : holds c.in-Some.id (map (λ x. x.version_id) (held_in b.versions.table)) ≡ true =
-    sym (c.holds-id.ensures ∙ (λ h. holds (z h) (map (λ x. x.version_id) (c.items.ensures h)))) ∙ c.if-not-holds-id.false in
+    sym (c.holds_id.ensures ∙ (λ h. holds (z h) (map (λ x. x.version_id) (c.items.ensures h)))) ∙ c.if-not-holds_id.false in
     unrecorded G fault_of _ b (SetCurrentViewVersion (to_z w32 (of_z w32 k))) c.record.result c.record.ensures.answer (with_pending (Some e) (with_current j b)) refl
-    (current_new G b c.args.clock c.args.version-id j (ap (λ i. resolved_id i b.last_added_version_id) (sym v) ∙ (sym c.resolved.ensures ∙ c.in-Some.is)) other e (to_z w32 (of_z w32 k)) there
-    (to_z-of_z w32 k (search rules) ∙ (c.as-recorded-view-version-id.ensures ∙ ap (λ i. cond (is_id b.last_added_version_id i) last_added i) z))
-    (c.log-entry-entry.ensures ∙ (λ h. log_entry (entered (model_of G b)) (z h) (t h))))
-    c.from-residual.result _ _ c.in-err-record.was c.from-residual.ensures.1 c.record.ensures.builder
+    (current_new G b c.args.clock c.args.version_id j (ap (λ i. resolved_id i b.last_added_version_id) (sym v) ∙ (sym c.resolved.ensures ∙ c.in-Some.is)) other e (to_z w32 (of_z w32 k)) there
+    (to_z-of_z w32 k (search rules) ∙ (c.as_recorded-view_version_id.ensures ∙ ap (λ i. cond (is_id b.last_added_version_id i) last_added i) z))
+    (c.log_entry-entry.ensures ∙ (λ h. log_entry (entered (model_of G b)) (z h) (t h))))
+    c.from_residual.result _ _ c.in_err-record.was c.from_residual.ensures.1 c.record.ensures.builder
 
 pub returns : goal.returns
 returns g c =
     let G = reading g.S.Identified g.S.Numbered g.S.SchemaKind in
     let b = c.args.self.now in
     let j = c.in-Some.id in
-    let e = c.log-entry-entry.result in
-    let k = c.as-recorded-view-version-id.result in
-    let v = to_z-of_z w32 c.args.version-id c.ranges.version-id in
+    let e = c.log_entry-entry.result in
+    let k = c.as_recorded-view_version_id.result in
+    let v = to_z-of_z w32 c.args.version_id c.ranges.version_id in
     let z = to_z-of_z w32 c.in-Some.id (search rules) in
     let t = to_z-of_z w64 c.args.clock c.ranges.clock in
     let other = same_no c.in-Some.id b.current_version_id (λ s. c.if-id-self.false (ap (of_z w32) s)) in
     let there : holds c.in-Some.id (map (λ x. x.version_id) (held_in b.versions.table)) ≡ true =
-    sym (c.holds-id.ensures ∙ (λ h. holds (z h) (map (λ x. x.version_id) (c.items.ensures h)))) ∙ c.if-not-holds-id.false in
+    sym (c.holds_id.ensures ∙ (λ h. holds (z h) (map (λ x. x.version_id) (c.items.ensures h)))) ∙ c.if-not-holds_id.false in
     noted G fault_of _ b (SetCurrentViewVersion (to_z w32 (of_z w32 k))) c.record.result c.record.ensures.answer (with_pending (Some e) (with_current j b)) refl
-    (current_new G b c.args.clock c.args.version-id j (ap (λ i. resolved_id i b.last_added_version_id) (sym v) ∙ (sym c.resolved.ensures ∙ c.in-Some.is)) other e (to_z w32 (of_z w32 k)) there
-    (to_z-of_z w32 k (search rules) ∙ (c.as-recorded-view-version-id.ensures ∙ ap (λ i. cond (is_id b.last_added_version_id i) last_added i) z))
-    (c.log-entry-entry.ensures ∙ (λ h. log_entry (entered (model_of G b)) (z h) (t h))))
-    tt _ _ c.in-ok-record.was (λ h. with_pending (Some e) (with_current (z h) (c.record.ensures.builder h)))
+    (current_new G b c.args.clock c.args.version_id j (ap (λ i. resolved_id i b.last_added_version_id) (sym v) ∙ (sym c.resolved.ensures ∙ c.in-Some.is)) other e (to_z w32 (of_z w32 k)) there
+    (to_z-of_z w32 k (search rules) ∙ (c.as_recorded-view_version_id.ensures ∙ ap (λ i. cond (is_id b.last_added_version_id i) last_added i) z))
+    (c.log_entry-entry.ensures ∙ (λ h. log_entry (entered (model_of G b)) (z h) (t h))))
+    tt _ _ c.in_ok-record.was (λ h. with_pending (Some e) (with_current (z h) (c.record.ensures.builder h)))

@@ -11,40 +11,40 @@ use Rattle.view.proofs.Outcomes.{left_by, went, unrecorded, noted}
 use Rattle.view.proofs.Location.{location_bad, location_kept, location_new}
 use Rattle.view.proofs.view_metadata_builder.ViewMetadataBuilder.set_location.Goals as goal
 
-pub returns-in-err-check : goal.returns-in-err-check
-returns-in-err-check g c clock =
+pub returns-in_err-check : goal.returns-in_err-check
+returns-in_err-check g c clock =
     let G = reading g.S.Identified g.S.Numbered g.S.SchemaKind in
     let b = c.args.self.now in
-    left_by G fault_of _ b c.from-residual.result b text_fault c.from-residual.ensures.1 refl (location_bad G b c.args.location clock (sym c.in-err-check.ensures))
+    left_by G fault_of _ b c.from_residual.result b text_fault c.from_residual.ensures.1 refl (location_bad G b c.args.location clock (sym c.in_err-check.ensures))
 
-pub returns-then-same-bytes : goal.returns-then-same-bytes
-returns-then-same-bytes g c clock =
+pub returns-then-same_bytes : goal.returns-then-same_bytes
+returns-then-same_bytes g c clock =
     let G = reading g.S.Identified g.S.Numbered g.S.SchemaKind in
     let b = c.args.self.now in
-    let u = c.without-trailing-slashes-location.result in
+    let u = c.without_trailing_slashes-location.result in
     let same : same_bytes (bytes_of b.text.now u) (bytes_of b.text.now b.location) ≡ true = cc in
-    went G fault_of _ b tt b (location_kept G b c.args.location clock u (sym c.in-ok-check.ensures) c.without-trailing-slashes-location.ensures.bytes same)
+    went G fault_of _ b tt b (location_kept G b c.args.location clock u (sym c.in_ok-check.ensures) c.without_trailing_slashes-location.ensures.bytes same)
 
-pub returns-in-err-record : goal.returns-in-err-record
-returns-in-err-record g c clock =
+pub returns-in_err-record : goal.returns-in_err-record
+returns-in_err-record g c clock =
     let G = reading g.S.Identified g.S.Numbered g.S.SchemaKind in
     let b = c.args.self.now in
-    let u = c.without-trailing-slashes-location.result in
-    let e = c.without-trailing-slashes-location.ensures in
-    let good = sym c.in-ok-check.ensures in
+    let u = c.without_trailing_slashes-location.result in
+    let e = c.without_trailing_slashes-location.ensures in
+    let good = sym c.in_ok-check.ensures in
     let other : same_bytes (bytes_of b.text.now u) (bytes_of b.text.now b.location) ≡ false = cc in
     unrecorded G fault_of _ b (SetLocation u) c.record.result c.record.ensures.answer (with_location u b) refl
     (location_new G b c.args.location clock u good e.bytes (trimmed_sound b.text.now c.args.location u e.place e.length good) other)
-    c.from-residual-in-err-record.result _ _ c.in-err-record.was c.from-residual-in-err-record.ensures.1 c.record.ensures.builder
+    c.from_residual-in_err-record.result _ _ c.in_err-record.was c.from_residual-in_err-record.ensures.1 c.record.ensures.builder
 
 pub returns : goal.returns
 returns g c clock =
     let G = reading g.S.Identified g.S.Numbered g.S.SchemaKind in
     let b = c.args.self.now in
-    let u = c.without-trailing-slashes-location.result in
-    let e = c.without-trailing-slashes-location.ensures in
-    let good = sym c.in-ok-check.ensures in
+    let u = c.without_trailing_slashes-location.result in
+    let e = c.without_trailing_slashes-location.ensures in
+    let good = sym c.in_ok-check.ensures in
     let other : same_bytes (bytes_of b.text.now u) (bytes_of b.text.now b.location) ≡ false = cc in
     noted G fault_of _ b (SetLocation u) c.record.result c.record.ensures.answer (with_location u b) refl
     (location_new G b c.args.location clock u good e.bytes (trimmed_sound b.text.now c.args.location u e.place e.length good) other)
-    tt _ _ c.in-ok-record.was (λ j. with_location u (c.record.ensures.builder j))
+    tt _ _ c.in_ok-record.was (λ j. with_location u (c.record.ensures.builder j))

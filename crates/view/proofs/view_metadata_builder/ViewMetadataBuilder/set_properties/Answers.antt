@@ -1,4 +1,4 @@
-use Rattle.std.proofs.Common.{◌≡◌, true, false, Ok, Err, sym, refl, ap, ◌∙◌, subst}
+use Rattle.std.proofs.Common.{◌≡◌, Ok, Err, sym, refl, ap, ◌∙◌, subst}
 use Rattle.fault.specs.Meaning.{fault_of}
 use Rattle.property.specs.Meaning.{properties_of, room_of}
 use Rattle.property.specs.Outcomes as property
@@ -15,7 +15,7 @@ pub returns-in-Err : goal.returns-in-Err
 returns-in-Err g c clock =
     let G = reading g.S.Identified g.S.Numbered g.S.SchemaKind in
     let b = c.args.self.now in
-    left_by G fault_of _ b (Err c.of-properties.result) b (property.fault_of c.in-Err.fault) c.of-properties.ensures refl
+    left_by G fault_of _ b (Err c.of_properties.result) b (property.fault_of c.in-Err.fault) c.of_properties.ensures refl
     (settings_refused G b c.args.updates.now clock _ c.in-Err.ensures)
 
 pub returns-then-not-changes : goal.returns-then-not-changes
@@ -24,14 +24,14 @@ returns-then-not-changes g c clock =
     let b = c.args.self.now in
     went G fault_of _ b tt b (settings_kept G b c.args.updates.now clock (ap Ok (sym c.if-not-changes.true) ∙ c.in-Ok.ensures))
 
-pub returns-in-err-record : goal.returns-in-err-record
-returns-in-err-record g c clock =
+pub returns-in_err-record : goal.returns-in_err-record
+returns-in_err-record g c clock =
     let G = reading g.S.Identified g.S.Numbered g.S.SchemaKind in
     let b = c.args.self.now in
     let ps = c.args.updates in
     unrecorded G fault_of _ b (SetProperties ps) c.record.result c.record.ensures.answer b refl
-    (settings_unrecorded G b ps.now clock (ap Ok (sym c.if-not-changes.false) ∙ c.in-Ok.ensures) (SetProperties ps) refl (full_from b c.record.result _ c.record.ensures.answer c.in-err-record.was))
-    c.from-residual.result _ _ c.in-err-record.was c.from-residual.ensures.1 c.record.ensures.builder
+    (settings_unrecorded G b ps.now clock (ap Ok (sym c.if-not-changes.false) ∙ c.in-Ok.ensures) (SetProperties ps) refl (full_from b c.record.result _ c.record.ensures.answer c.in_err-record.was))
+    c.from_residual.result _ _ c.in_err-record.was c.from_residual.ensures.1 c.record.ensures.builder
 
 pub returns : goal.returns
 returns g c clock =
@@ -43,4 +43,4 @@ returns g c clock =
     c.record.ensures.builder c.set.ensures.answer in
     noted G fault_of _ b (SetProperties ps) c.record.result c.record.ensures.answer (with_properties c.set.new.self b) refl
     (settings_noted G b ps.now clock (ap Ok (sym c.if-not-changes.false) ∙ c.in-Ok.ensures) (SetProperties ps) refl c.set.new.self c.set.result set (c.set.ensures.rest.room ∙ ap (λ d. room_of d.properties) c.record.ensures.builder))
-    tt _ _ c.in-ok-record.was (λ j. with_properties c.set.new.self (c.record.ensures.builder j))
+    tt _ _ c.in_ok-record.was (λ j. with_properties c.set.new.self (c.record.ensures.builder j))

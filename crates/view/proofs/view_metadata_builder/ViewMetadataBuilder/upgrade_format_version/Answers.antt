@@ -4,4 +4,4 @@ use Rattle.view.proofs.view_metadata_builder.ViewMetadataBuilder.upgrade_format_
 
 pub returns : goal.returns
 returns g c clock =
-    format_upgraded (reading g.S.Identified g.S.Numbered g.S.SchemaKind) c.args.self.now c.args.format_version clock c.check-format.result c.check-format.ensures
+    format_upgraded (reading g.S.Identified g.S.Numbered g.S.SchemaKind) c.args.self.now c.args.format_version clock c.check_format.result c.check_format.ensures
