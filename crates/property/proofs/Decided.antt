@@ -119,3 +119,8 @@ many_of f xs h = lt-ltb most_in_call (length (map f xs)) (omega (arith, h, lengt
 
 pub few_of : {A B : Type 0} (f : A → B) (xs : List A) → length xs ≤ most_in_call → over most_in_call (map f xs) ≡ false
 few_of f xs h = le-ltb most_in_call (length (map f xs)) (omega (arith, h, length-map xs f))
+
+-- more updates than one call may bring are refused for their number
+pub many_refused : (block : Bytes) (updates : List Property) → most_in_call < length updates → (room : ℕ) (held : List model.Property) →
+    properties_after room (map (property_in block) updates) held ≡ Err (fault limit_reached properties_part)
+many_refused block updates many room held = too_many room _ held (many_of (property_in block) updates many)

@@ -136,6 +136,7 @@ fn negative_size(updates: &[Property], block: &[u8]) -> Option<usize>
 }
 
 // The tests that need no table: the number of the updates, then their texts, then their order, then the history size.
+#[tactic(auto, using(crate::proofs::Decided::many_refused))]
 fn check(updates: &[Property], block: &[u8]) -> Result<(), PropertyFault>
     ensures { FirstTests block.now updates.now result }
 {
