@@ -1,7 +1,7 @@
 #!/usr/bin/env python3
 """Respells this repository's own antt names: words are in snake case, types and facts in camel case.
 
-usage: python3 tools/respell.py [ROOT]      once, on a tree that /opt/rattle/port/port.py has just turned
+usage: python3 tools/respell.py [ROOT]      once, on a tree that the kit's port.py has just turned
 
 A name is the repository's own if it stands in a module of specs/ or proofs/ and no line imports it from the library.
 Names that Rattle makes stand only in Answers.antt, Invariants.antt and Proof.antt, so they are not among them. Strings, and the code of src/ outside its clauses, stay.
