@@ -2,7 +2,7 @@ ghost use Rattle.std.specs.Prelude.{◌≡◌, map, ℤ};
 ghost use Rattle.model.specs.State.{assign_uuid, set_properties};
 ghost use Rattle.fault.specs.Meaning.{fault_of};
 ghost use Rattle.property.specs.Meaning.{property_in};
-ghost use Rattle.property.specs.Outcomes.{fault_of as property-fault};
+ghost use Rattle.property.specs.Outcomes.{fault_of as property_fault};
 ghost use Rattle.view.specs.Meaning.{reading, Applied};
 
 use super::view_metadata_builder::ViewMetadataBuilder;
@@ -13,7 +13,7 @@ use schema::kind::SchemaKind;
 
 // The fault of properties, in their part.
 fn of_properties(fault: PropertyFault) -> Fault
-    ensures { fault_of result ≡ property-fault fault }
+    ensures { fault_of result ≡ property_fault fault }
 {
     let refusal = match fault.refusal {
         PropertyRefusal::TooMany => Refusal::LimitReached,
