@@ -2,13 +2,13 @@ ghost use Rattle.std.specs.Prelude.{◌≡◌, ◌++◌, is_ok, if◌then◌else
 ghost use Rattle.quote.specs.Quotes.{quoted};
 ghost use Rattle.text.specs.Meaning.{bytes_of};
 
-use property::property::Property;
+use text::property::Property;
 use quote::hex::write_hex;
 use quote::write::write_quoted;
 use schema::sealed::SealedSchema;
 use std::alloc::{AllocError, Global};
 use text::text::Text;
-use version::view_version::{SqlViewRepresentation, SummaryPair, ViewVersion, ViewVersionLog};
+use version::view_version::{SqlViewRepresentation, ViewVersion, ViewVersionLog};
 
 // What has been printed, of records over a text block.
 #[derive(Drop)]
@@ -149,12 +149,6 @@ impl<'b> Printer<'b> {
 impl Printed for Text {
     fn print(&self, printer: &mut Printer<'_>) -> Result<(), AllocError> {
         printer.text(*self)
-    }
-}
-
-impl Printed for SummaryPair {
-    fn print(&self, printer: &mut Printer<'_>) -> Result<(), AllocError> {
-        printer.two(self.key, " = ", self.value)
     }
 }
 

@@ -9,10 +9,11 @@ use Rattle.model.specs.Refusals.{Fault, fault, refuse_at, over, then, malformed,
 use Rattle.model.specs.Edits.{read_all, out_of_order, negative_size, put_properties, properties_after}
 use Rattle.model.proofs.Basics.{refuse_ok, refuse_at_ok, ok_is}
 use Rattle.text.specs.Meaning.{sound}
-use Rattle.property.specs.declared.property.Property.{Property}
+use Rattle.text.specs.declared.property.Property.{Property}
 use Rattle.property.specs.declared.property.Properties.{Properties}
 use Rattle.property.specs.declared.property.PropertyFault.{PropertyFault}
-use Rattle.property.specs.Meaning.{property_of, property_in, properties_of, room_of}
+use Rattle.text.specs.Properties.{property_of, property_in}
+use Rattle.property.specs.Meaning.{properties_of, room_of}
 use Rattle.property.specs.Outcomes.{fault_of, answered, after_updates, planned, within, FirstTests}
 use Rattle.property.proofs.Tested.{read_ok}
 

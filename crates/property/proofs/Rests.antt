@@ -3,7 +3,7 @@ use Rattle.std.proofs.Common.{◌≡◌, ℕ, ◌+◌, ◌-◌, ◌<◌, ◌≤�
 use Rattle.std.specs.List.{insert}
 use Rattle.std.proofs.lemmas.List.{length-take, length-set, length-drop, length-append, drop-drop, drop-set-lt, drop_at}
 use Rattle.std.proofs.lemmas.List.Edits.{length-insert}
-use Rattle.property.specs.declared.property.Property.{Property}
+use Rattle.text.specs.declared.property.Property.{Property}
 use Rattle.property.specs.declared.property.Properties.{Properties}
 use Rattle.property.specs.Meaning.{KeepsRest, room_of}
 

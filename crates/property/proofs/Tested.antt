@@ -1,14 +1,14 @@
 -- The tests of the updates, as their loops make them. Assumes nothing.
-use Rattle.std.proofs.Common.{◌≡◌, ℕ, suc, ◌+◌, ◌-◌, ◌<◌, ◌≤◌, Bool, true, false, cond, not, ◌&&◌, List, [], ◌∷◌, map, length, get_or, drop, Some, None, Ok, Err, Option, sym, refl, ap, ◌∙◌, inl, inr, add-one, arith}
+use Rattle.std.proofs.Common.{◌≡◌, ℕ, suc, ◌+◌, ◌<◌, ◌≤◌, Bool, true, false, cond, not, ◌&&◌, List, [], ◌∷◌, map, length, get_or, drop, Some, None, Ok, Err, Option, sym, refl, ap, ◌∙◌, inl, inr, add-one, arith}
 use Rattle.std.specs.List.{prefix_len}
 use Rattle.std.proofs.lemmas.List.{at_drop_more, at_drop_all}
 use Rattle.std.proofs.lemmas.Bool.{cond-true, cond-false, cases_lt}
-use Rattle.model.specs.Bytes.{Bytes, before, same_bytes}
+use Rattle.model.specs.Bytes.{Bytes, same_bytes}
 use Rattle.model.specs.Version.{Property}
 use Rattle.model.specs.Refusals.{bad_text, properties_part}
 use Rattle.model.specs.Numbers.{below_zero, signed_reading}
 use Rattle.model.specs.Settings.{history_key}
-use Rattle.model.specs.Edits.{read_all, misplaced, out_of_order, negative_size}
+use Rattle.model.specs.Edits.{read_all, negative_size}
 use Rattle.model.specs.Build.{look_up}
 
 -- what is read of a list whose good elements pass a test
@@ -44,30 +44,6 @@ module _ {A B : Type 0} (good : A → Bool) (f : A → B) where
         | inl l ↦ (let b = read_bad 0 xs l in let z : ◌≡◌ {A = ℕ} 0 1 = cc in absurd (omega arith))
         | inr l ↦ (let b = read_good 0 xs l in (cc))
       ]
-
-module _ {A : Type 0} (f : A → Property) (xs : List A) (d : A) where
-  -- the test of the order has come to the position i
-  abbrev pub order_from : ℕ → Option ℕ
-  order_from i = misplaced i (f (get_or xs (i - 1) d)).key (map f (drop i xs))
-
-  pub order_more : (i : ℕ) → i < length xs → before (f (get_or xs (i - 1) d)).key (f (get_or xs i d)).key ≡ true → order_from i ≡ order_from (i + 1)
-  order_more i h t =
-      let e : i + 1 - 1 ≡ i = omega arith in
-      at_drop_more (λ ys. misplaced i (f (get_or xs (i - 1) d)).key (map f ys)) xs i d h ∙ rw (t, e, add-one)
-
-  pub order_stop : (i : ℕ) → i < length xs → before (f (get_or xs (i - 1) d)).key (f (get_or xs i d)).key ≡ false → order_from i ≡ Some i
-  order_stop i h t = at_drop_more (λ ys. misplaced i (f (get_or xs (i - 1) d)).key (map f ys)) xs i d h ∙ rw t
-
-  pub order_all : (i : ℕ) → length xs ≤ i → order_from i ≡ None
-  order_all i h = at_drop_all (λ ys. misplaced i (f (get_or xs (i - 1) d)).key (map f ys)) xs i h
-
-pub order_none : {A : Type 0} (f : A → Property) (xs : List A) (d : A) → 0 < length xs → order_from f xs d 1 ≡ out_of_order (map f xs)
-order_none f [] d h = absurd (omega arith)
-order_none f (x ∷ xs) d h = refl
-
-pub order_end : {A : Type 0} (f : A → Property) (xs : List A) (d : A) (i : ℕ) → length xs ≤ i → (0 < length xs → order_from f xs d i ≡ out_of_order (map f xs)) → None ≡ out_of_order (map f xs)
-order_end f [] d i h e = refl
-order_end f (x ∷ xs) d i h e = sym (order_all f (x ∷ xs) d i h) ∙ e (omega arith)
 
 module _ {A : Type 0} (f : A → Property) (xs : List A) (i : ℕ) (d : A) (in' : i < length xs) where
   -- the element sets a history size below 0

@@ -1,18 +1,9 @@
 -- What the code's properties mean. Assumes nothing.
-use Rattle.std.specs.Prelude.{◌≡◌, ℕ, max, cond, ◌&&◌, List, map, length, take, drop, Some, None, Option, nat_lt}
+use Rattle.std.specs.Prelude.{◌≡◌, ℕ, max, cond, List, map, length, take, drop, Some, None, Option, nat_lt}
 use Rattle.model.specs.Bytes.{Bytes}
 use Rattle.model.specs.Version as model
-use Rattle.text.specs.Meaning.{bytes_of, sound}
-use Rattle.property.specs.declared.property.Property.{Property}
+use Rattle.text.specs.Properties.{property_of}
 use Rattle.property.specs.declared.property.Properties.{Properties}
-
--- a property held
-abbrev pub property_of : Bytes → Property → model.Property
-property_of block p = record { key = bytes_of block p.key; value = bytes_of block p.value }
-
--- a property handed in: none where one of its texts is not sound
-abbrev pub property_in : Bytes → Property → Option model.Property
-property_in block p = cond (sound block p.key && sound block p.value) (Some (property_of block p)) None
 
 -- the properties that the table holds
 abbrev pub properties_of : Bytes → Properties → List model.Property

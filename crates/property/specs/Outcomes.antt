@@ -4,12 +4,13 @@ use Rattle.model.specs.Bytes.{Bytes, same_list}
 use Rattle.model.specs.Version as model
 use Rattle.model.specs.Refusals.{Fault, fault, refuse, over, then, bad_text, malformed, negative_history_size, limit_reached, properties_part}
 use Rattle.model.specs.Edits.{out_of_order, put_properties, properties_after}
-use Rattle.property.specs.declared.property.Property.{Property}
+use Rattle.text.specs.declared.property.Property.{Property}
 use Rattle.property.specs.declared.property.Properties.{Properties}
 use Rattle.property.specs.declared.property.PropertyRefusal.{PropertyRefusal}
 use Rattle.property.specs.declared.property.PropertyRefusal.TheVariants.{TooMany, BadText, Malformed, NegativeHistorySize}
 use Rattle.property.specs.declared.property.PropertyFault.{PropertyFault}
-use Rattle.property.specs.Meaning.{property_of, property_in, properties_of, room_of}
+use Rattle.text.specs.Properties.{property_of, property_in}
+use Rattle.property.specs.Meaning.{properties_of, room_of}
 
 -- the number of a refusal
 abbrev pub number_of : PropertyRefusal → ℕ

@@ -8,7 +8,8 @@ ghost use Rattle.model.specs.Settings.{history_key, drop_key};
 ghost use Rattle.model.specs.Edits.{read_all, out_of_order, negative_size, put_property, put_properties};
 ghost use Rattle.model.specs.Build.{look_up, history_size, drop_allowed};
 ghost use Rattle.text.specs.Meaning.{bytes_of, sound};
-ghost use Rattle.property.specs.Meaning.{found_at, property_of, property_in, properties_of, room_of, KeepsRest};
+ghost use Rattle.text.specs.Properties.{property_of, property_in};
+ghost use Rattle.property.specs.Meaning.{found_at, properties_of, room_of, KeepsRest};
 ghost use Rattle.property.specs.Outcomes.{answered, after_updates, planned, FirstTests};
 
 use setting::number::signed_reading;
@@ -16,17 +17,10 @@ use setting::settings::{
     DEFAULT_HISTORY_SIZE, effective_size, is_drop_key, is_history_key, is_truthy,
 };
 use text::bytes::{before, same_bytes};
-use text::text::{Text, TextFault};
+use text::property::{Property, out_of_order};
 
 // The most properties of one call.
 pub const MAX_UPDATES: usize = 16;
-
-// A property of the view.
-#[derive(Clone, Copy)]
-pub struct Property {
-    pub key: Text,
-    pub value: Text,
-}
 
 // The properties of the view, ascending by key: the first records of a lent table.
 #[derive(Drop)]
@@ -75,26 +69,16 @@ fn place(items: &[Property], key: &[u8], block: &[u8]) -> usize
     items.len()
 }
 
-impl Property {
-    // Refuses a property one of whose texts is not sound.
-    fn check(&self, block: &[u8]) -> Result<(), TextFault>
-        ensures { is_ok result ≡ (sound block.now self.now.key && sound block.now self.now.value) }
-    {
-        self.key.check(block)?;
-        self.value.check(block)
+// It sets the history size to a number below 0.
+fn is_negative_size(property: &Property, block: &[u8]) -> bool
+    ensures { result ≡ (same_bytes (bytes_of block.now property.now.key) history_key && below_zero (signed_reading (bytes_of block.now property.now.value))) }
+{
+    if !is_history_key(property.key.bytes(block)) {
+        return false;
     }
-
-    // It sets the history size to a number below 0.
-    fn is_negative_size(&self, block: &[u8]) -> bool
-        ensures { result ≡ (same_bytes (bytes_of block.now self.now.key) history_key && below_zero (signed_reading (bytes_of block.now self.now.value))) }
-    {
-        if !is_history_key(self.key.bytes(block)) {
-            return false;
-        }
-        match signed_reading(self.value.bytes(block)) {
-            Some(n) => n < 0,
-            None => false,
-        }
+    match signed_reading(property.value.bytes(block)) {
+        Some(n) => n < 0,
+        None => false,
     }
 }
 
@@ -110,25 +94,12 @@ fn bad_text(updates: &[Property], block: &[u8]) -> Option<usize>
     None
 }
 
-// The position of the first key that does not come after the one before it.
-fn out_of_order(updates: &[Property], block: &[u8]) -> Option<usize>
-    ensures { result ≡ out_of_order (map (property_of block.now) updates.now) }
-{
-    for i in 1..updates.len() {
-        let ascends = before(updates[i - 1].key.bytes(block), updates[i].key.bytes(block));
-        if !ascends {
-            return Some(i);
-        }
-    }
-    None
-}
-
 // The position of a history size below 0.
 fn negative_size(updates: &[Property], block: &[u8]) -> Option<usize>
     ensures { result ≡ negative_size 0 (map (property_of block.now) updates.now) }
 {
     for (i, p) in updates.iter().enumerate() {
-        if p.is_negative_size(block) {
+        if is_negative_size(p, block) {
             return Some(i);
         }
     }

@@ -3,12 +3,12 @@ ghost use Rattle.std.specs.Prelude.{◌≡◌, ◌+◌, length, IfOk, vec_len};
 use super::script::{Line, Script, Span, Statement, Unread, VersionParts};
 use cursor::cursor::Cursor;
 use cursor::fault::{Expected, ReadFault};
-use property::property::Property;
+use text::property::Property;
 use quote::read::read_quoted;
 use schema::sealed::SealedSchema;
 use std::alloc::{AllocError, Global};
 use text::text::Text;
-use version::view_version::{SqlViewRepresentation, SummaryPair};
+use version::view_version::SqlViewRepresentation;
 
 // A text: its bytes go to the end of the block.
 fn read_text(cursor: &mut Cursor<'_>, block: &mut Vec<u8>) -> Result<Text, ReadFault>
@@ -47,13 +47,6 @@ trait Element: Copy {
 impl Element for Text {
     fn read(cursor: &mut Cursor<'_>, block: &mut Vec<u8>) -> Result<Text, ReadFault> {
         read_text(cursor, block)
-    }
-}
-
-impl Element for SummaryPair {
-    fn read(cursor: &mut Cursor<'_>, block: &mut Vec<u8>) -> Result<SummaryPair, ReadFault> {
-        let (key, value) = read_two(cursor, "=", block)?;
-        Ok(SummaryPair { key, value })
     }
 }
 

@@ -1,11 +1,11 @@
 ghost use Rattle.std.specs.Prelude.{◌≡◌, take, drop};
 
 use cursor::fault::Expected;
-use property::property::Property;
+use text::property::Property;
 use schema::sealed::SealedSchema;
 use std::alloc::Global;
 use text::text::Text;
-use version::view_version::{SqlViewRepresentation, SummaryPair, ViewVersion};
+use version::view_version::{SqlViewRepresentation, ViewVersion};
 
 // A part of one of the script's lists.
 #[derive(Clone, Copy)]
@@ -74,7 +74,7 @@ pub struct Unread {
 #[derive(Drop)]
 pub struct Script {
     pub block: Vec<u8>,
-    pub pairs: Vec<SummaryPair>,
+    pub pairs: Vec<Property>,
     pub representations: Vec<SqlViewRepresentation>,
     pub names: Vec<Text>,
     pub properties: Vec<Property>,

@@ -1,3 +1,4 @@
 pub mod Clips
 pub mod Compared
+pub mod Orders
 pub mod Slashes

@@ -1,4 +1,5 @@
 #![tactic(auto)]
 
 pub mod bytes;
+pub mod property;
 pub mod text;

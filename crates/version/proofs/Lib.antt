@@ -1,4 +1,3 @@
 pub mod Blank
 pub mod Exits
 pub mod Looped
-pub mod Ordered

@@ -4,20 +4,15 @@ use Rattle.std.specs.Option.{option_map}
 use Rattle.model.specs.Bytes.{Bytes, all, ascii}
 use Rattle.model.specs.Limits.{most_representations, most_summary_pairs, most_namespace_parts}
 use Rattle.model.specs.Refusals.{over, first_failed}
-use Rattle.model.specs.Version as model
 use Rattle.model.specs.Version.{Content, Version, LogEntry, Representation}
 use Rattle.model.specs.State.{VersionIn}
 use Rattle.model.specs.Edits.{out_of_order}
 use Rattle.text.specs.Meaning.{bytes_of, sound}
+use Rattle.text.specs.Properties.{property_of}
 use Rattle.text.specs.declared.text.Text.{Text}
-use Rattle.version.specs.declared.view_version.SummaryPair.{SummaryPair}
 use Rattle.version.specs.declared.view_version.SqlViewRepresentation.{SqlViewRepresentation}
 use Rattle.version.specs.declared.view_version.ViewVersion.{ViewVersion}
 use Rattle.version.specs.declared.view_version.ViewVersionLog.{ViewVersionLog}
-
--- a pair of the summary
-abbrev pub pair_of : Bytes → SummaryPair → model.Property
-pair_of block p = record { key = bytes_of block p.key; value = bytes_of block p.value }
 
 -- a SQL text with its dialect
 abbrev pub representation_of : Bytes → SqlViewRepresentation → Representation
@@ -27,7 +22,7 @@ representation_of block r = record { sql = bytes_of block r.sql; dialect = bytes
 abbrev pub content_of : Bytes → ViewVersion → Content
 content_of block v = record {
   schema_id = v.schema_id;
-  summary = map (pair_of block) v.summary.now;
+  summary = map (property_of block) v.summary.now;
   representations = map (representation_of block) v.representations.now;
   default_catalog = option_map (bytes_of block) v.default_catalog;
   default_namespace = map (bytes_of block) v.default_namespace.now;
@@ -83,7 +78,7 @@ ascii_dialects block v = all (λ r. ascii (bytes_of block r.dialect)) v.represen
 
 -- a key of the summary does not come after the one before it
 abbrev pub keys_out_of_order : Bytes → ViewVersion → Bool
-keys_out_of_order block v = is_some (out_of_order (map (pair_of block) v.summary.now))
+keys_out_of_order block v = is_some (out_of_order (map (property_of block) v.summary.now))
 
 -- the number that its own tests refuse it with, none where they pass; they do not look at its ids
 abbrev pub version_verdict : Bytes → ViewVersion → Option ℕ

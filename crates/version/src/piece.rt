@@ -1,11 +1,13 @@
 ghost use Rattle.std.specs.Prelude.{◌≡◌, ℕ, Bool, ◌&&◌, List, map, is_ok};
 ghost use Rattle.model.specs.Bytes.{all, same_list, same_bytes};
-ghost use Rattle.model.specs.Version.{Property, Representation, same_property, same_representation};
+ghost use Rattle.model.specs.Version.{Property as model_property, Representation, same_property, same_representation};
 ghost use Rattle.text.specs.Meaning.{bytes_of, sound};
-ghost use Rattle.version.specs.Meaning.{pair_of, representation_of};
+ghost use Rattle.text.specs.Properties.{property_of};
+ghost use Rattle.version.specs.Meaning.{representation_of};
 
-use super::view_version::{SqlViewRepresentation, SummaryPair};
+use super::view_version::SqlViewRepresentation;
 use text::bytes::same_bytes;
+use text::property::Property;
 use text::text::{Text, TextFault};
 
 // A piece of a version that is made of texts.
@@ -44,22 +46,21 @@ impl Piece for Text {
     }
 }
 
-impl Piece for SummaryPair {
-    ghost Meaning = { Property };
+impl Piece for Property {
+    ghost Meaning = { model_property };
 
-    ghost meant = { pair_of };
+    ghost meant = { property_of };
 
     ghost alike = { same_property };
 
     ghost good = { λ block p. sound block p.key && sound block p.value };
 
-    fn same_as(&self, other: &SummaryPair, block: &[u8]) -> bool {
+    fn same_as(&self, other: &Property, block: &[u8]) -> bool {
         self.key.same_as(&other.key, block) && self.value.same_as(&other.value, block)
     }
 
     fn check_texts(&self, block: &[u8]) -> Result<(), TextFault> {
-        self.key.check(block)?;
-        self.value.check(block)
+        self.check(block)
     }
 }
 

@@ -1,16 +1,16 @@
-ghost use Rattle.std.specs.Prelude.{◌≡◌, not, map, pos, is_some, is_ok, refl};
+ghost use Rattle.std.specs.Prelude.{◌≡◌, pos, is_ok, refl};
 ghost use Rattle.std.specs.Option.{option_map};
 ghost use Rattle.model.specs.Bytes.{all, ascii};
-ghost use Rattle.model.specs.Edits.{out_of_order};
 ghost use Rattle.model.specs.Version.{Content, same_content, same_text};
 ghost use Rattle.model.proofs.Sames.{same_law};
 ghost use Rattle.text.specs.Meaning.{bytes_of};
-ghost use Rattle.version.specs.Meaning.{content_of, version_verdict, renumbered, of_schema, pair_of, sound_texts};
+ghost use Rattle.version.specs.Meaning.{content_of, version_verdict, renumbered, of_schema, sound_texts};
 
 use super::piece::{Piece, check_pieces, same_pieces};
 use register::fault::RecordFault;
 use register::numbered::{Identified, Lawful, Numbered};
-use text::bytes::{before, is_ascii};
+use text::bytes::is_ascii;
+use text::property::{Property, out_of_order};
 use text::text::{Text, TextFault};
 
 // The most representations of a version.
@@ -21,13 +21,6 @@ pub const MAX_SUMMARY_PAIRS: usize = 8;
 
 // The most parts of its default namespace.
 pub const MAX_NAMESPACE_PARTS: usize = 8;
-
-// A pair of a version's summary.
-#[derive(Clone, Copy)]
-pub struct SummaryPair {
-    pub key: Text,
-    pub value: Text,
-}
 
 // The SQL text that defines the view for one dialect.
 #[derive(Clone, Copy)]
@@ -42,7 +35,7 @@ pub struct ViewVersion<'v> {
     pub version_id: i32,
     pub schema_id: i32,
     pub timestamp_ms: i64,
-    pub summary: &'v [SummaryPair],
+    pub summary: &'v [Property],
     pub representations: &'v [SqlViewRepresentation],
     pub default_catalog: Option<Text>,
     pub default_namespace: &'v [Text],
@@ -95,24 +88,6 @@ fn has_ascii_dialects(representations: &[SqlViewRepresentation], block: &[u8]) -
         if !is_ascii(representation.dialect.bytes(block)) {
             return false;
         }
-    }
-    true
-}
-
-// Each key comes after the one before it.
-fn keys_ascend(summary: &[SummaryPair], block: &[u8]) -> bool
-    ensures { not result ≡ is_some (out_of_order (map (pair_of block.now) summary.now)) }
-{
-    let [first, rest @ ..] = summary else {
-        return true;
-    };
-    let mut key = first.key;
-    for pair in rest {
-        let ascending = before(key.bytes(block), pair.key.bytes(block));
-        if !ascending {
-            return false;
-        }
-        key = pair.key;
     }
     true
 }
@@ -172,11 +147,10 @@ impl Numbered for ViewVersion<'_> {
         if !has_ascii_dialects(self.representations, block) {
             return Err(RecordFault::NonAsciiDialect);
         }
-        if keys_ascend(self.summary, block) {
-            Ok(())
-        } else {
-            Err(RecordFault::Malformed)
+        if out_of_order(self.summary, block).is_some() {
+            return Err(RecordFault::Malformed);
         }
+        Ok(())
     }
 }
 

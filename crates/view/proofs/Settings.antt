@@ -13,10 +13,11 @@ use Rattle.model.specs.Updates as updates
 use Rattle.model.specs.Updates.{recorded, state_of}
 use Rattle.model.specs.Edits.{edit, after_assign_uuid, after_set_properties}
 use Rattle.register.specs.Tables.{is_full}
-use Rattle.property.specs.declared.property.Property.{Property}
+use Rattle.text.specs.declared.property.Property.{Property}
 use Rattle.property.specs.declared.property.Properties.{Properties}
 use Rattle.property.specs.declared.property.PropertyFault.{PropertyFault}
-use Rattle.property.specs.Meaning.{property_in, properties_of, room_of}
+use Rattle.text.specs.Properties.{property_in}
+use Rattle.property.specs.Meaning.{properties_of, room_of}
 use Rattle.property.specs.Outcomes.{answered, after_updates, planned}
 use Rattle.view.specs.declared.view_metadata_builder.ViewMetadataBuilder.{ViewMetadataBuilder}
 use Rattle.view.specs.declared.view_update.ViewUpdate.{ViewUpdate}

@@ -13,7 +13,8 @@ use Rattle.register.specs.declared.numbered.Identified as identified
 use Rattle.register.specs.declared.numbered.Numbered as numbered
 use Rattle.schema.specs.declared.kind.SchemaKind as schema_kind
 use Rattle.version.specs.Meaning.{version_of, version_in, entry_of}
-use Rattle.property.specs.Meaning.{property_in, properties_of, room_of}
+use Rattle.text.specs.Properties.{property_in}
+use Rattle.property.specs.Meaning.{properties_of, room_of}
 use Rattle.fault.specs.Meaning.{fault_of}
 use Rattle.fault.specs.declared.fault.Fault.{Fault}
 use Rattle.view.specs.declared.view_update.ViewUpdate.{ViewUpdate}

@@ -1,14 +1,15 @@
 ghost use Rattle.std.specs.Prelude.{◌≡◌, map, ℤ};
 ghost use Rattle.model.specs.State.{assign_uuid, set_properties};
 ghost use Rattle.fault.specs.Meaning.{fault_of};
-ghost use Rattle.property.specs.Meaning.{property_in};
+ghost use Rattle.text.specs.Properties.{property_in};
 ghost use Rattle.property.specs.Outcomes.{fault_of as property_fault};
 ghost use Rattle.view.specs.Meaning.{reading, Applied};
 
 use super::view_metadata_builder::ViewMetadataBuilder;
 use super::view_update::ViewUpdate;
 use fault::fault::{Fault, Part, Refusal};
-use property::property::{Property, PropertyFault, PropertyRefusal};
+use property::property::{PropertyFault, PropertyRefusal};
+use text::property::Property;
 use schema::kind::SchemaKind;
 
 // The fault of properties, in their part.

@@ -1,4 +1,4 @@
-use property::property::Property;
+use text::property::Property;
 use text::text::Text;
 use version::view_version::{ViewVersion, ViewVersionLog};
 

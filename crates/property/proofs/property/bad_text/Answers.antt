@@ -2,8 +2,8 @@ use Rattle.std.proofs.Common.{Bool, not, ◌&&◌, Err, sym, ap, ◌∙◌, arit
 use Rattle.model.specs.Bytes.{Bytes}
 use Rattle.model.specs.Refusals.{bad_text, properties_part}
 use Rattle.text.specs.Meaning.{sound}
-use Rattle.property.specs.declared.property.Property.{Property}
-use Rattle.property.specs.Meaning.{property_of}
+use Rattle.text.specs.declared.property.Property.{Property}
+use Rattle.text.specs.Properties.{property_of}
 use Rattle.property.proofs.Places.{passed_over, stopped_at, ran_out}
 use Rattle.property.proofs.Tested.{read_good, read_bad}
 use Rattle.property.proofs.property.bad_text.Goals as goal

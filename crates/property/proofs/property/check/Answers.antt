@@ -1,5 +1,5 @@
 use Rattle.std.proofs.Common.{sym, arith}
-use Rattle.property.specs.Meaning.{property_in}
+use Rattle.text.specs.Properties.{property_in}
 use Rattle.property.proofs.Decided.{unread, unordered, negative, passed, few_of}
 use Rattle.property.proofs.property.check.Goals as goal
 

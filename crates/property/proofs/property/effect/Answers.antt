@@ -3,7 +3,7 @@ use Rattle.std.proofs.lemmas.List.{take_all, length-map}
 use Rattle.model.specs.Bytes.{same_bytes, same_list}
 use Rattle.model.specs.Version.{same_property}
 use Rattle.model.specs.Edits.{put_properties}
-use Rattle.property.specs.Meaning.{property_of}
+use Rattle.text.specs.Properties.{property_of}
 use Rattle.property.proofs.Places.{look_up_found, look_up_missed}
 use Rattle.property.proofs.Effects.{counted_none, counted_same, counted_revalued, counted_new}
 use Rattle.property.proofs.property.effect.Goals as goal

@@ -1,5 +1,5 @@
 use Rattle.std.proofs.Common.{map, length}
-use Rattle.property.specs.Meaning.{property_of}
+use Rattle.text.specs.Properties.{property_of}
 use Rattle.property.proofs.Effects.{Counted}
 use Rattle.property.proofs.property.effect.Given as goal
 

@@ -1,5 +1,5 @@
 use Rattle.std.proofs.Common.{sym, ◌∙◌}
-use Rattle.property.specs.Meaning.{property_of}
+use Rattle.text.specs.Properties.{property_of}
 use Rattle.property.proofs.Tested.{size_more, size_stop, size_all}
 use Rattle.property.proofs.property.negative_size.Goals as goal
 

@@ -1,6 +1,6 @@
 use Rattle.std.proofs.Common.{◌≡◌, map, drop}
 use Rattle.model.specs.Edits.{negative_size}
-use Rattle.property.specs.Meaning.{property_of}
+use Rattle.text.specs.Properties.{property_of}
 use Rattle.property.proofs.property.negative_size.Given as goal
 
 abbrev pub invariant-loop-i : goal.invariant-loop-i

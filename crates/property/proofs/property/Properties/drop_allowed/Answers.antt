@@ -2,7 +2,7 @@ use Rattle.std.proofs.Common.{map, Some, sym, ap, ◌∙◌}
 use Rattle.model.specs.Bytes.{same_bytes}
 use Rattle.model.specs.Settings.{drop_key}
 use Rattle.model.specs.Build.{look_up, drop_allowed}
-use Rattle.property.specs.Meaning.{property_of}
+use Rattle.text.specs.Properties.{property_of}
 use Rattle.property.proofs.Tested.{look_more, look_here, look_all}
 use Rattle.property.proofs.property.Properties.drop_allowed.Goals as goal
 

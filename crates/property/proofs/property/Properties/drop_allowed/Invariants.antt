@@ -1,7 +1,7 @@
 use Rattle.std.proofs.Common.{◌≡◌, map, drop}
 use Rattle.model.specs.Settings.{drop_key}
 use Rattle.model.specs.Build.{look_up}
-use Rattle.property.specs.Meaning.{property_of}
+use Rattle.text.specs.Properties.{property_of}
 use Rattle.property.proofs.property.Properties.drop_allowed.Given as goal
 
 abbrev pub invariant-loop-p : goal.invariant-loop-p

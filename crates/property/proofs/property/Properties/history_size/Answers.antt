@@ -3,7 +3,7 @@ use Rattle.model.specs.Bytes.{same_bytes}
 use Rattle.model.specs.Settings.{history_key}
 use Rattle.model.specs.Settings.{effective_size}
 use Rattle.model.specs.Build.{look_up, history_size}
-use Rattle.property.specs.Meaning.{property_of}
+use Rattle.text.specs.Properties.{property_of}
 use Rattle.property.proofs.Tested.{look_more, look_here, look_all}
 use Rattle.property.proofs.property.Properties.history_size.Goals as goal
 

@@ -1,6 +1,6 @@
 use Rattle.std.proofs.Common.{map, take, refl, ap, ◌∙◌, arith}
 use Rattle.std.proofs.lemmas.List.{length-take}
-use Rattle.property.specs.Meaning.{property_of}
+use Rattle.text.specs.Properties.{property_of}
 use Rattle.property.proofs.Stored.{found_inside, stored_old, free, place_inside, stored_new}
 use Rattle.property.proofs.Rests.{keeps_old, keeps_new}
 use Rattle.property.proofs.property.Properties.put.Goals as goal

@@ -4,7 +4,8 @@ use Rattle.std.proofs.lemmas.Bool.{false≢true}
 use Rattle.model.specs.Bytes.{same_list}
 use Rattle.model.specs.Version.{same_property}
 use Rattle.model.specs.Edits.{put_properties}
-use Rattle.property.specs.Meaning.{property_of, properties_of, room_of}
+use Rattle.text.specs.Properties.{property_of}
+use Rattle.property.specs.Meaning.{properties_of, room_of}
 use Rattle.property.specs.Outcomes.{after_updates}
 use Rattle.property.proofs.Decided.{broken, accepted, then_err}
 use Rattle.property.proofs.Effects.{put_next, put_has_room}

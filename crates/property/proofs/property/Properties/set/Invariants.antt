@@ -1,5 +1,6 @@
 use Rattle.std.proofs.Common.{◌≡◌}
-use Rattle.property.specs.Meaning.{property_of, properties_of, KeepsRest}
+use Rattle.text.specs.Properties.{property_of}
+use Rattle.property.specs.Meaning.{properties_of, KeepsRest}
 use Rattle.property.proofs.Effects.{after_first}
 use Rattle.property.proofs.property.Properties.set.Given as goal
 

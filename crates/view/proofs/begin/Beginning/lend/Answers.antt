@@ -1,5 +1,5 @@
 use Rattle.std.proofs.Common.{length, refl, ap, ◌∙◌}
-use Rattle.property.specs.Meaning.{property_of}
+use Rattle.text.specs.Properties.{property_of}
 use Rattle.version.specs.Meaning.{version_of, entry_of}
 use Rattle.view.specs.Meaning.{reading, schema_of, change_of}
 use Rattle.view.proofs.Starts.{none_held, bare}
