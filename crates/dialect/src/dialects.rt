@@ -20,26 +20,22 @@ fn has_dialect(
 ) -> bool
     ensures { result ≡ any (same_bytes (folded_dialect block.now like.now)) (map (folded_dialect block.now) representations.now) }
 {
-    for representation in representations {
-        if same_folded(
-            like.dialect.bytes(block),
-            representation.dialect.bytes(block),
-        ) {
-            return true;
-        }
-    }
-    false
+    let dialect = like.dialect.bytes(block);
+    representations
+        .iter()
+        .any(|r| same_folded(dialect, r.dialect.bytes(block)))
 }
 
 // Refuses a version of which two dialects are equal up to case.
 pub fn require_unique_dialects(version: &ViewVersion, block: &[u8]) -> Result<(), RepeatedDialect>
     ensures { is_err result ≡ repeats same_bytes (dialects (content_of block.now version.now)) }
 {
-    let representations = version.representations;
-    for (i, representation) in representations.iter().enumerate() {
-        if has_dialect(&representations[i + 1..], representation, block) {
+    let mut left = version.representations;
+    while let [first, rest @ ..] = left {
+        if has_dialect(rest, first, block) {
             return Err(RepeatedDialect);
         }
+        left = rest;
     }
     Ok(())
 }
@@ -49,15 +45,5 @@ pub fn loses_dialect(previous: &ViewVersion, current: &ViewVersion, block: &[u8]
     ensures { result ≡ loses_dialect (Some (version_of block.now previous.now)) (content_of block.now current.now) }
 {
     let (olds, news) = (previous.representations, current.representations);
-    let mut lost = false;
-    'previous: for old in olds {
-        for new in news {
-            if same_folded(old.dialect.bytes(block), new.dialect.bytes(block)) {
-                continue 'previous;
-            }
-        }
-        lost = true;
-        break 'previous;
-    }
-    lost
+    olds.iter().any(|old| !has_dialect(news, old, block))
 }

@@ -1,7 +1,7 @@
 -- The log that is kept, one more entry at a time. Assumes nothing.
-use Rattle.std.proofs.Common.{◌≡◌, ℕ, ◌+◌, ◌<◌, ◌≤◌, Bool, true, false, cond, ◌&&◌, List, [], ◌∷◌, ◌++◌, map, length, get_or, take, drop, ℤ, sym, refl, ap, ◌∙◌, arith}
-use Rattle.std.proofs.lemmas.List.{length-take-le, take_more, drop-append-le, drop_all, map_push}
-use Rattle.std.proofs.lemmas.Bool.{cond-true, cond-false}
+use Rattle.std.proofs.Common.{suc, reverse, subst, ◌-◌, ◌≡◌, ℕ, ◌+◌, ◌≤◌, Bool, true, false, cond, ◌&&◌, List, [], ◌∷◌, ◌++◌, map, length, drop, ℤ, sym, refl, ap, ◌∙◌, arith}
+use Rattle.std.specs.List.{prefix_len}
+use Rattle.std.proofs.lemmas.List.{reverse-reverse, reverse-append, length-reverse, length-append, drop-append-le, drop_all, map_push}
 use Rattle.model.specs.Version.{LogEntry}
 use Rattle.model.specs.Ids.{holds}
 use Rattle.model.specs.Build.{names_only, kept_log}
@@ -36,21 +36,36 @@ kept_log_push ids (x ∷ es) e =
     go false true more = more
     go false false more = more
 
--- a turn of the loop over the log, at an entry that names one of the ids, and at one that names none
-module _ {A : Type 0} (f : A → LogEntry) (ids : List ℤ) (xs : List A) (i : ℕ) (d : A) (h : i < length xs) where
-  whole_more : kept_log ids (map f (take (i + 1) xs)) ≡ cond (holds (f (get_or xs i d)).id ids) (kept_log ids (map f (take i xs)) ++ f (get_or xs i d) ∷ []) []
-  whole_more = ap (λ ys. kept_log ids (map f ys)) (take_more xs i d h) ∙ ap (kept_log ids) (map_push f (take i xs) (get_or xs i d)) ∙ kept_log_push ids (map f (take i xs)) (f (get_or xs i d))
+-- the entry names one of the ids
+module _ {A : Type 0} (f : A → LogEntry) (ids : List ℤ) where
+  abbrev pub named_by : A → Bool
+  named_by e = holds (f e).id ids
 
-  pub kept_log_more : (from : ℕ) → from ≤ i → holds (f (get_or xs i d)).id ids ≡ true → map f (drop from (take i xs)) ≡ kept_log ids (map f (take i xs)) →
-      map f (drop from (take (i + 1) xs)) ≡ kept_log ids (map f (take (i + 1) xs))
-  kept_log_more from le t inv =
-      ap (λ ys. map f (drop from ys)) (take_more xs i d h)
-      ∙ ap (map f) (drop-append-le from (take i xs) (get_or xs i d ∷ []) (omega (arith, length-take-le i xs (omega arith))))
-      ∙ map_push f (drop from (take i xs)) (get_or xs i d)
-      ∙ ap (λ ys. ys ++ f (get_or xs i d) ∷ []) inv
-      ∙ sym (whole_more ∙ cond-true (holds (f (get_or xs i d)).id ids) _ _ t)
+  -- how many entries at the end name one of the ids, of those that are read from the end
+  abbrev pub last_named : List A → ℕ
+  last_named ys = prefix_len named_by ys
 
-  pub kept_log_anew : holds (f (get_or xs i d)).id ids ≡ false → map f (drop (i + 1) (take (i + 1) xs)) ≡ kept_log ids (map f (take (i + 1) xs))
-  kept_log_anew t =
-      ap (map f) (drop_all (i + 1) (take (i + 1) xs) (omega (arith, length-take-le (i + 1) xs (omega arith))))
-      ∙ sym (whole_more ∙ cond-false (holds (f (get_or xs i d)).id ids) _ _ t)
+  last_le : (ys : List A) → length ys - last_named ys ≤ length (reverse ys)
+  last_le ys = omega (arith, length-reverse ys)
+
+  kept_at_end : (ys : List A) → map f (drop (length ys - last_named ys) (reverse ys)) ≡ kept_log ids (map f (reverse ys))
+  kept_at_end [] = refl
+  kept_at_end (y ∷ ys) =
+      ap (λ zs. map f (drop (length (y ∷ ys) - last_named (y ∷ ys)) zs)) (reverse-append (y ∷ []) ys)
+      ∙ go (named_by y) (kept_at_end ys)
+      ∙ sym (kept_log_push ids (map f (reverse ys)) (f y))
+      ∙ ap (kept_log ids) (sym (map_push f (reverse ys) y) ∙ ap (map f) (sym (reverse-append (y ∷ []) ys)))
+    where
+      go : (b : Bool) → map f (drop (length ys - last_named ys) (reverse ys)) ≡ kept_log ids (map f (reverse ys)) → map f (drop (suc (length ys) - cond b (1 + last_named ys) 0) (reverse ys ++ y ∷ [])) ≡ cond b (kept_log ids (map f (reverse ys)) ++ f y ∷ []) []
+      go true more =
+          ap (λ n. map f (drop n (reverse ys ++ y ∷ []))) (let e : suc (length ys) - (1 + last_named ys) ≡ length ys - last_named ys = omega arith in e)
+          ∙ ap (map f) (drop-append-le (length ys - last_named ys) (reverse ys) (y ∷ []) (last_le ys))
+          ∙ map_push f (drop (length ys - last_named ys) (reverse ys)) y
+          ∙ ap (λ es. es ++ f y ∷ []) more
+      go false more = ap (map f) (drop_all (suc (length ys) - 0) (reverse ys ++ y ∷ []) (omega (arith, length-append (reverse ys) (y ∷ []), length-reverse ys)))
+
+  -- the kept log is so many entries at the end
+  pub kept_is : (xs : List A) (k : ℕ) → k ≡ last_named (reverse xs) → map f (drop (length xs - k) xs) ≡ kept_log ids (map f xs)
+  kept_is xs k e =
+      ap (λ m. map f (drop (length xs - m) xs)) e ∙ ap (λ n. map f (drop (n - last_named (reverse xs)) xs)) (sym (length-reverse xs))
+      ∙ subst (λ zs. map f (drop (length (reverse xs) - last_named (reverse xs)) zs) ≡ kept_log ids (map f zs)) (reverse-reverse xs) (kept_at_end (reverse xs))

@@ -25,7 +25,7 @@ kept_by_map f p (x ∷ xs) = go (p (f x)) (kept_by_map f p xs)
     go true e = ap (λ l. f x ∷ l) e
     go false e = e
 
-count_map : {A B : Type 0} (f : A → B) (p : B → Bool) (xs : List A) → length (filter p (map f xs)) ≡ length (filter (λ x. p (f x)) xs)
+pub count_map : {A B : Type 0} (f : A → B) (p : B → Bool) (xs : List A) → length (filter p (map f xs)) ≡ length (filter (λ x. p (f x)) xs)
 count_map f p xs = ap length (kept_by_map f p xs) ∙ length-map (filter (λ x. p (f x)) xs) f
 
 -- things that mean versions, under the ids that they have

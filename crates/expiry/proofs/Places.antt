@@ -1,9 +1,7 @@
 -- Counting the higher ids, the lowest that has a place, and what is kept by it. Assumes nothing.
-use Rattle.std.proofs.Common.{◌≡◌, ℕ, ◌+◌, ◌-◌, ◌<◌, ◌≤◌, Bool, true, false, cond, ◌||◌, eqb, ltb, ◌⊎◌, List, [], ◌∷◌, ◌++◌, map, length, get_or, take, ℤ, Some, None, filter, Option, sym, refl, ap, ◌∙◌, subst, ap₂, inl, inr, arith, length-append}
+use Rattle.std.proofs.Common.{◌≡◌, ℕ, ◌-◌, ◌<◌, ◌≤◌, Bool, true, false, cond, ◌||◌, eqb, ltb, ◌⊎◌, List, [], ◌∷◌, map, ℤ, Some, None, filter, Option, sym, refl, ap, ◌∙◌, subst, ap₂, inl, inr, arith}
 use lib.Signed.{lt_z, le_z}
 use Rattle.std.specs.List.{AllByRecursion}
-use Rattle.std.proofs.lemmas.List.{map_more}
-use Rattle.std.proofs.lemmas.List.Elements.{filter-append}
 use Rattle.std.proofs.ByRecursion.{All-weaker}
 use Rattle.std.proofs.lemmas.Bool.Decides.{same_from_decides}
 use Rattle.std.proofs.lemmas.Int.{ints}
@@ -12,28 +10,6 @@ use Rattle.model.specs.Ids.{same_number, least_of, lowest, lowest_id_where}
 use Rattle.model.proofs.Counts.{count_weaker}
 use Rattle.expiry.specs.Expiry.{higher_than, places_for, at_least, has_place, id_stays, keeps_id, lowest_placed, KeepsWhatStays}
 use Rattle.expiry.specs.declared.expire.Kept.{Kept}
-use Rattle.register.proofs.Ids.{lowest_step, lowest_skip}
-
--- one more id among those counted
-higher_push : (is : List ℤ) (j i : ℤ) → higher_than (is ++ j ∷ []) i ≡ higher_than is i + cond (lt_z i j) 1 0
-unfolding higher_than
-higher_push is j i = ap length (filter-append (lt_z i) is (j ∷ [])) ∙ length-append (filter (lt_z i) is) (filter (lt_z i) (j ∷ [])) ∙ ap (λ n. length (filter (lt_z i) is) + n) (go (lt_z i j))
-  where
-    go : (b : Bool) → length (cond b (j ∷ []) []) ≡ cond b 1 0
-    go true = refl
-    go false = refl
-
-pub higher_more : {A : Type 0} (f : A → ℤ) (xs : List A) (k : ℕ) {y : A} (i : ℤ) → k < length xs → y ≡ get_or xs k y → higher_than (map f (take (k + 1) xs)) i ≡ higher_than (map f (take k xs)) i + cond (lt_z i (f y)) 1 0
-higher_more f xs k {y = y} i h is =
-    ap (λ js. higher_than js i) (map_more f xs k y h) ∙ higher_push (map f (take k xs)) (f (get_or xs k y)) i ∙ ap (λ x. higher_than (map f (take k xs)) i + cond (lt_z i (f x)) 1 0) (sym is)
-
--- a turn of the loop that counts
-module _ {A : Type 0} (f : A → ℤ) (xs : List A) (k : ℕ) {y : A} (i : ℤ) {n : ℕ} (h : k < length xs) (is : y ≡ get_or xs k y) (inv : n ≡ higher_than (map f (take k xs)) i) where
-  pub higher_yes : lt_z i (f y) ≡ true → n + 1 ≡ higher_than (map f (take (k + 1) xs)) i
-  higher_yes t = ap (λ m. m + 1) inv ∙ sym (higher_more f xs k i h is ∙ ap (λ b. higher_than (map f (take k xs)) i + cond b 1 0) t)
-
-  pub higher_no : lt_z i (f y) ≡ false → n ≡ higher_than (map f (take (k + 1) xs)) i
-  higher_no t = inv ∙ sym (higher_more f xs k i h is ∙ ap (λ b. higher_than (map f (take k xs)) i + cond b 1 0) t ∙ omega arith)
 
 -- no more are above a higher id
 pub higher_less : (is : List ℤ) (j i : ℤ) → le_z j i ≡ true → higher_than is i ≤ higher_than is j
@@ -42,15 +18,6 @@ higher_less is j i h = count_weaker (lt_z i) (lt_z j) (λ x e. grind (arith, int
 
 pub place_above : (is : List ℤ) (places : ℕ) (j i : ℤ) → le_z j i ≡ true → has_place is places j ≡ true → has_place is places i ≡ true
 place_above is places j i h p = lt-ltb (higher_than is i) places (omega (arith, higher_less is j i h, ltb-true (higher_than is j) places p))
-
--- the lowest is as it was, or is the new one
-pub least_same : (z : ℤ) (best : Option ℤ) → at_least best z ≡ true → Some (least_of z best) ≡ best
-least_same z None h = absurd (true≢false (sym h))
-least_same z (Some j) h = ap Some (grind (arith, ints))
-
-pub least_new : (z : ℤ) (best : Option ℤ) → at_least best z ≡ false → z ≡ least_of z best
-least_new z None h = refl
-least_new z (Some j) h = grind (arith, ints)
 
 -- how many places there are
 module _ (ids : List ℤ) (current : ℤ) (n added : ℕ) where
@@ -64,15 +31,6 @@ module _ (ids : List ℤ) (current : ℤ) (n added : ℕ) where
   pub places_but_one : n ≤ higher_than ids current → (n ≡ added → ⊥) → n - 1 ≡ places_for ids current n added
   unfolding places_for
   places_but_one h d = sym (cond-false (ltb (higher_than ids current) n || eqb n added) n (n - 1) (or_from (ltb (higher_than ids current) n) (eqb n added) (le-ltb (higher_than ids current) n h) (ne_eqb n added d)))
-
--- a turn of the loop that looks for the lowest, at an id that is not below the best so far
-pub lowest_stays : {A : Type 0} (f : A → ℤ) (xs : List A) (k : ℕ) {y : A} {best : Option ℤ} → k < length xs → y ≡ get_or xs k y → (test : A → Bool) → best ≡ lowest_id_where f test (take k xs) →
-    at_least best (f y) ≡ true → best ≡ lowest_id_where f test (take (k + 1) xs)
-lowest_stays f xs k {y = y} {best = best} h is test inv t =
-    elim (cases_Bool (test y)) [
-      | inl p ↦ sym (least_same (f y) best t) ∙ lowest_step f xs k h is test inv p refl refl
-      | inr p ↦ lowest_skip f xs k h is test inv p
-    ]
 
 at_least_either : (z : ℤ) (m : Option ℤ) (i : ℤ) → le_z (least_of z m) i ≡ true → (le_z z i ≡ true) ⊎ (at_least m i ≡ true)
 at_least_either z None i h = inl h

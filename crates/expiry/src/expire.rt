@@ -26,23 +26,14 @@ impl Kept {
 fn at_least(lowest: Option<i32>, id: i32) -> bool
     ensures { result ≡ at_least lowest id }
 {
-    match lowest {
-        None => false,
-        Some(lowest) => lowest <= id,
-    }
+    lowest.is_some_and(|lowest| lowest <= id)
 }
 
 // How many of the versions have a higher id.
 fn higher<T: Identified>(items: &[T], id: i32) -> usize
     ensures { result ≡ higher_than (map T.Identified.named items.now) id }
 {
-    let mut count = 0;
-    for v in items {
-        if v.id() > id {
-            count += 1;
-        }
-    }
-    count
+    items.iter().filter(|v| v.id() > id).count()
 }
 
 // How many of the versions stay by their rank: the last place is left to a current version that has none.
@@ -61,14 +52,11 @@ fn places<T: Identified>(items: &[T], current: i32, size: u64, added: usize) -> 
 fn lowest_placed<T: Identified>(items: &[T], places: u64) -> Option<i32>
     ensures { result ≡ lowest_placed T.Identified.named items.now places }
 {
-    let mut best: Option<i32> = None;
-    for v in items {
-        let id = v.id();
-        if !at_least(best, id) && (higher(items, id) as u64) < places {
-            best = Some(id);
-        }
-    }
-    best
+    items
+        .iter()
+        .filter(|v| (higher(items, v.id()) as u64) < places)
+        .map(|v| v.id())
+        .min()
 }
 
 // The versions that do not expire.
@@ -81,6 +69,7 @@ pub fn versions_to_keep<T: Identified>(items: &[T], current: i32, size: u64, add
 }
 
 // Moves what is kept of the first slots to the front, in its order; answers how many there are.
+// Kept: an index, since it writes the slots that it reads; `retain` is of a Vec, and no call allocates.
 fn keep_in_front<T: Identified>(slots: &mut [T], held: usize, kept: Kept) -> usize
     ensures count { result ≡ length (kept_of T.Identified.named kept (take held slots.old)) }
     ensures front { slots.new ≡ over_front (kept_of T.Identified.named kept (take held slots.old)) slots.old }

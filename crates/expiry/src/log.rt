@@ -11,11 +11,7 @@ pub fn update_version_log<T: Identified>(log: &[ViewVersionLog], kept: &[T]) -> 
     ensures within { result ≤ length log.now }
     ensures entries { map entry_of (drop result log.now) ≡ kept_log (map T.Identified.named kept.now) (map entry_of log.now) }
 {
-    let mut from = 0;
-    for (i, entry) in log.iter().enumerate() {
-        if !holds_id(kept, entry.version_id) {
-            from = i + 1;
-        }
-    }
-    from
+    let from_the_end = log.iter().rev();
+    let kept_entries = from_the_end.take_while(|entry| holds_id(kept, entry.version_id));
+    log.len() - kept_entries.count()
 }

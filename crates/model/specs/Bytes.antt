@@ -1,5 +1,6 @@
 -- Texts as their bytes: equality, order, folding, trailing slashes. Assumes nothing.
 use Rattle.std.specs.Prelude.{ℕ, ◌+◌, Bool, true, false, cond, ◌&&◌, ◌||◌, leb, List, [], ◌∷◌, map, ◌==◌, nat_eq, nat_le, nat_lt}
+use Rattle.std.specs.List.{list_all, list_any}
 
 -- a text is its bytes
 abbrev pub Bytes : Type 0
@@ -25,8 +26,7 @@ before (x ∷ xs) (y ∷ ys) = nat_lt x y || (x == y && before xs ys)
 
 -- some element passes the test
 abbrev pub any : {A : Type 0} → (A → Bool) → List A → Bool
-any test [] = false
-any test (x ∷ xs) = test x || any test xs
+any = list_any
 
 -- some two elements are the same
 abbrev pub repeats : {A : Type 0} → (A → A → Bool) → List A → Bool
@@ -35,8 +35,7 @@ repeats same (x ∷ xs) = any (same x) xs || repeats same xs
 
 -- every element passes the test
 abbrev pub all : {A : Type 0} → (A → Bool) → List A → Bool
-all test [] = true
-all test (x ∷ xs) = test x && all test xs
+all = list_all
 
 -- no byte is above 127
 abbrev pub ascii : Bytes → Bool

@@ -1,5 +1,5 @@
 ghost use Rattle.std.specs.Prelude.{◌≡◌, not, map, if◌then◌else◌, Some, None};
-ghost use Rattle.model.specs.Ids.{find, holds, least_of, greatest_of, highest, is_id, highest_id, after};
+ghost use Rattle.model.specs.Ids.{find, holds, highest, is_id, highest_id, after};
 ghost use Rattle.register.specs.Tables.{held_in, is_full};
 ghost use Rattle.register.specs.Registers.{same_id, new_id, pushed, entered};
 
@@ -17,73 +17,39 @@ pub struct Register<'a, T> {
 pub fn find<T: Identified>(items: &[T], id: i32) -> Option<T>
     ensures { result ≡ find T.Identified.named id items.now }
 {
-    for x in items {
-        if x.id() == id {
-            return Some(*x);
-        }
-    }
-    None
+    items.iter().find(|x| x.id() == id).copied()
 }
 
 // Whether one of them has the id.
 pub fn holds_id<T: Identified>(items: &[T], id: i32) -> bool
     ensures { result ≡ holds id (map T.Identified.named items.now) }
 {
-    find(items, id).is_some()
-}
-
-// The less of the two.
-fn least(id: i32, best: Option<i32>) -> i32
-    ensures { result ≡ least_of id best }
-{
-    match best {
-        None => id,
-        Some(b) => id.min(b),
-    }
-}
-
-// The greater of the two.
-fn greatest(id: i32, best: Option<i32>) -> i32
-    ensures { result ≡ greatest_of id best }
-{
-    match best {
-        None => id,
-        Some(b) => id.max(b),
-    }
+    items.iter().any(|x| x.id() == id)
 }
 
 // The lowest id of those that are the same as `thing`.
 fn lowest_like<T: Numbered>(items: &[T], thing: &T, block: &[u8]) -> Option<i32>
     ensures { result ≡ same_id T.Identified T.Numbered.own block.now thing.now items.now }
 {
-    let mut best = None;
-    for x in items {
-        if x.same(thing, block) {
-            best = Some(least(x.id(), best));
-        }
-    }
-    best
+    items
+        .iter()
+        .filter(|x| x.same(thing, block))
+        .map(|x| x.id())
+        .min()
 }
 
 // The highest id.
 fn highest_of<T: Identified>(items: &[T]) -> Option<i32>
     ensures { result ≡ highest (map T.Identified.named items.now) }
 {
-    let mut best = None;
-    for x in items {
-        best = Some(greatest(x.id(), best));
-    }
-    best
+    items.iter().map(|x| x.id()).max()
 }
 
 // One above the highest, or the first; none where the highest possible is in use.
 fn id_after(first: i32, highest: Option<i32>) -> Option<i32>
     ensures { result ≡ (if is_id highest highest_id then None else Some (after first highest)) }
 {
-    match highest {
-        None => Some(first),
-        Some(id) => id.checked_add(1),
-    }
+    highest.map_or(Some(first), |id| id.checked_add(1))
 }
 
 impl<'a, T: Numbered> Register<'a, T> {
@@ -98,9 +64,8 @@ impl<'a, T: Numbered> Register<'a, T> {
     pub fn next_id(&self) -> Result<i32, RegisterFault>
         ensures { result ≡ new_id T.Identified T.Numbered.own self.now.table }
     {
-        let Some(id) = id_after(T::initial_id(), highest_of(self.table.items())) else {
-            return Err(RegisterFault::NoIdLeft);
-        };
+        let highest = highest_of(self.table.items());
+        let id = id_after(T::initial_id(), highest).ok_or(RegisterFault::NoIdLeft)?;
         if self.table.is_full() {
             return Err(RegisterFault::Full);
         }

@@ -5,7 +5,7 @@ ghost use Rattle.std.proofs.Common.{rules};
 
 use super::kind::SchemaKind;
 use register::fault::RecordFault;
-use register::numbered::{Identified, Lawful, Numbered};
+use register::numbered::{Identified, Numbered};
 use text::bytes::same_bytes;
 use text::text::Text;
 
@@ -63,12 +63,10 @@ impl Numbered for SealedSchema {
         }
         Ok(())
     }
-}
 
-impl Lawful for SealedSchema {
     ghost decides = { sealed_decides };
 
-    ghost own = { Prim.search rules };
+    ghost own_copy = { Prim.search rules };
 
     ghost again = { Prim.search rules };
 

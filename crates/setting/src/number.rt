@@ -29,21 +29,14 @@ fn numeral(bytes: &[u8]) -> Option<u64>
 fn positive(n: Option<u64>) -> Option<i64>
     ensures { result ≡ as_integer pos (at_most (2 ^ 63 - 1) n) }
 {
-    match n {
-        Some(n) if n < 1 << 63 => Some(n as i64),
-        _ => None,
-    }
+    i64::try_from(n?).ok()
 }
 
 // The number below zero, if it fits.
 fn negative(n: Option<u64>) -> Option<i64>
     ensures { result ≡ as_integer (λ m. neg_ℤ (pos m)) (at_most (2 ^ 63) n) }
 {
-    match n {
-        Some(n) if n < 1 << 63 => Some(-(n as i64)),
-        Some(n) if n == 1 << 63 => Some(i64::MIN),
-        _ => None,
-    }
+    0i64.checked_sub_unsigned(n?)
 }
 
 // The number that a text writes with one sign or none before its digits.

@@ -33,13 +33,9 @@ pub fn is_drop_key(key: &[u8]) -> bool
 pub fn effective_size(value: Option<&[u8]>) -> u64
     ensures { result ≡ effective_size (option_map (λ x. x.now) value.entry) }
 {
-    let Some(bytes) = value else {
-        return DEFAULT_HISTORY_SIZE;
-    };
-    match unsigned_reading(bytes) {
-        Some(n) => n.max(1),
-        None => DEFAULT_HISTORY_SIZE,
-    }
+    value
+        .and_then(unsigned_reading)
+        .map_or(DEFAULT_HISTORY_SIZE, |n| n.max(1))
 }
 
 // `true`, `t`, `1` or `on`, in any case.

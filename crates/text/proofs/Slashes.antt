@@ -1,16 +1,17 @@
 -- The trailing slashes of a list of bytes, taken off one by one. Assumes nothing.
-use Rattle.std.proofs.Common.{◌≡◌, ℕ, suc, ◌-◌, ◌<◌, ◌≤◌, true, false, eqb, [], ◌∷◌, ◌++◌, length, get_or, take, drop, sym, refl, ap, ◌∙◌, arith}
-use Rattle.std.proofs.lemmas.List.{take_more, take-take, length-take, length-take-le}
-use Rattle.std.proofs.lemmas.Bool.{ne_eqb, cond_both}
+use Rattle.std.proofs.Common.{◌+◌, reverse, Bool, ◌==◌, subst, inl, inr, ◌≡◌, ℕ, suc, ◌≤◌, true, false, eqb, [], ◌∷◌, ◌++◌, length, take, drop, sym, refl, ap, ◌∙◌, arith}
+use Rattle.std.specs.List.{prefix_len}
+use Rattle.std.proofs.lemmas.List.{reverse-reverse, reverse-append, length-append, take_all, length-reverse, length-drop, take-append-le, take-take, length-take, length-take-le}
+use Rattle.std.proofs.lemmas.Bool.{cases_Bool, cond_both}
 use Rattle.std.proofs.lemmas.Bool.Decides.{nat_tests}
 use Rattle.model.specs.Bytes.{Bytes, unless_slash, trimmed}
 use Rattle.text.specs.declared.text.Text.{Text}
 use Rattle.text.specs.Meaning.{bytes_of, sound}
 
 -- a slash at the end goes
-slash_push : (xs : Bytes) → trimmed (xs ++ 47 ∷ []) ≡ trimmed xs
-slash_push [] = refl
-slash_push (x ∷ xs) = ap (unless_slash x) (slash_push xs)
+slash_push : (xs : Bytes) (b : ℕ) → eqb b 47 ≡ true → trimmed (xs ++ b ∷ []) ≡ trimmed xs
+slash_push [] b h = simp h
+slash_push (x ∷ xs) b h = ap (unless_slash x) (slash_push xs b h)
 
 -- any other byte at the end stays
 kept_before : (x b : ℕ) (xs : Bytes) → unless_slash x (xs ++ b ∷ []) ≡ x ∷ (xs ++ b ∷ [])
@@ -21,29 +22,36 @@ other_push : (xs : Bytes) (b : ℕ) → eqb b 47 ≡ false → trimmed (xs ++ b 
 other_push [] b h = simp h
 other_push (x ∷ xs) b h = ap (unless_slash x) (other_push xs b h) ∙ kept_before x b xs
 
--- the front of n bytes, whose last is at n - 1
-last_at : (xs : Bytes) (n : ℕ) → 0 < n → n ≤ length xs → take n xs ≡ take (n - 1) xs ++ get_or xs (n - 1) 0 ∷ []
-last_at xs n p h = ap (λ k. take k xs) (omega arith) ∙ take_more xs (n - 1) 0 (omega arith)
+abbrev pub is_slash : ℕ → Bool
+is_slash b = b == 47
 
--- one slash less
-pub slash_less : (xs : Bytes) (n : ℕ) → 0 < n → n ≤ length xs → get_or xs (n - 1) 0 ≡ 47 → trimmed (take (n - 1) xs) ≡ trimmed (take n xs)
-slash_less xs n p h e = sym (ap trimmed (last_at xs n p h ∙ ap (λ b. take (n - 1) xs ++ b ∷ []) e) ∙ slash_push (take (n - 1) xs))
+-- how many bytes are left of those that are read from the end
+abbrev pub left : Bytes → ℕ
+left ys = length (drop (prefix_len is_slash ys) ys)
 
--- the two ends: another byte is the last, or none is left
-pub other_ends : (xs : Bytes) (n : ℕ) → 0 < n → n ≤ length xs → (get_or xs (n - 1) 0 ≡ 47 → ⊥) → trimmed (take n xs) ≡ take n xs
-other_ends xs n p h d =
-    ap trimmed (last_at xs n p h) ∙ (other_push (take (n - 1) xs) (get_or xs (n - 1) 0) (ne_eqb _ _ d) ∙ sym (last_at xs n p h))
+left_le : (ys : Bytes) → left ys ≤ length (reverse ys)
+left_le ys = omega (arith, length-drop (prefix_len is_slash ys) ys, length-reverse ys)
 
-pub none_ends : (xs : Bytes) (n : ℕ) → n ≤ 0 → trimmed (take n xs) ≡ take n xs
-none_ends xs n h = let e : n ≡ 0 = omega arith in rw e
+left_is : (ys : Bytes) → trimmed (reverse ys) ≡ take (left ys) (reverse ys)
+left_is [] = refl
+left_is (y ∷ ys) =
+    elim (cases_Bool (is_slash y)) [
+      | inl t ↦ rw (t, reverse-append (y ∷ []) ys) (slash_push (reverse ys) y t ∙ left_is ys ∙ sym (take-append-le (left ys) (reverse ys) (y ∷ []) (left_le ys))
+          ∙ ap (λ n. take (length (drop n (y ∷ ys))) (reverse ys ++ y ∷ [])) (let e : suc (prefix_len is_slash ys) ≡ 1 + prefix_len is_slash ys = omega arith in e))
+      | inr t ↦ rw (t, reverse-append (y ∷ []) ys) (other_push (reverse ys) y t ∙ sym (take_all (length (y ∷ ys)) (reverse ys ++ y ∷ []) (omega (arith, length-append (reverse ys) (y ∷ []), length-reverse ys))))
+    ]
+
+-- so many bytes are left in front
+pub left_in_front : (xs : Bytes) (k : ℕ) → k ≡ left (reverse xs) → (k ≤ length xs) × (trimmed xs ≡ take k xs)
+left_in_front xs k e = rw e (subst (λ zs. (left (reverse xs) ≤ length zs) × (trimmed zs ≡ take (left (reverse xs)) zs)) (reverse-reverse xs) (left_le (reverse xs), left_is (reverse xs)))
 
 -- the part of k bytes that is left of the n bytes xs from place p
-pub trimmed_part : (block : Bytes) (p n k : ℕ) {xs : Bytes} → xs ≡ take n (drop p block) → k ≤ length xs → trimmed (take k xs) ≡ trimmed xs → trimmed (take k xs) ≡ take k xs →
+pub trimmed_part : (block : Bytes) (p n k : ℕ) {xs : Bytes} → xs ≡ take n (drop p block) → k ≡ left (reverse xs) →
     (take k (drop p block) ≡ trimmed (take n (drop p block))) × (k ≡ length (trimmed (take n (drop p block))))
-trimmed_part block p n k {xs} e h t u =
-    let s : k ≤ n = omega (arith, simp length-take at (ap length e)) in
-    let v : take k xs ≡ trimmed (take n (drop p block)) = sym u ∙ (t ∙ ap trimmed e) in
-    (sym (ap (take k) e ∙ take-take k n (drop p block) s) ∙ v, sym (length-take-le k xs h) ∙ ap length v)
+trimmed_part block p n k {xs} e h =
+    let l = left_in_front xs k h in
+    let s : k ≤ n = omega (arith, l.0, simp length-take at (ap length e)) in
+    (sym (take-take k n (drop p block) s) ∙ (sym (ap (take k) e) ∙ (sym l.1 ∙ ap trimmed e)), sym (length-take-le k xs l.0) ∙ ap length (sym l.1 ∙ ap trimmed e))
 
 length_unless : (x : ℕ) (ys : Bytes) → length (unless_slash x ys) ≤ suc (length ys)
 length_unless x [] = cond_both (eqb x 47) [] (x ∷ []) (λ zs. length zs ≤ 1) (λ _. omega arith) (λ _. omega arith)

@@ -1,9 +1,6 @@
 ghost use Rattle.std.specs.Prelude.{◌≡◌};
 ghost use Rattle.model.specs.Bytes.{same_bytes, before, ascii};
 
-// The last byte of ASCII.
-const LAST_ASCII: u8 = 127;
-
 // The same bytes.
 pub fn same_bytes(a: &[u8], b: &[u8]) -> bool
     ensures { result ≡ same_bytes a.now b.now }
@@ -22,10 +19,5 @@ pub fn before(a: &[u8], b: &[u8]) -> bool
 pub fn is_ascii(a: &[u8]) -> bool
     ensures { result ≡ ascii a.now }
 {
-    for x in a {
-        if *x > LAST_ASCII {
-            return false;
-        }
-    }
-    true
+    a.is_ascii()
 }

@@ -56,14 +56,10 @@ impl Text {
         ensures place { result.place ≡ self.now.place }
         ensures length { result.length ≡ length (trimmed (bytes_of block.now self.now)) }
     {
-        let bytes = self.bytes(block);
-        let mut end = bytes.len();
-        while end > 0 && bytes[end - 1] == b'/' {
-            end -= 1;
-        }
+        let from_the_end = self.bytes(block).iter().rev();
         Text {
             place: self.place,
-            length: end,
+            length: from_the_end.skip_while(|b| **b == b'/').count(),
         }
     }
 }

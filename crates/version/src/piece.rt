@@ -87,15 +87,7 @@ impl Piece for SqlViewRepresentation {
 pub(super) fn same_pieces<T: Piece>(left: &[T], right: &[T], block: &[u8]) -> bool
     ensures { result ≡ same_list T.Piece.alike (map (T.Piece.meant block.now) left.now) (map (T.Piece.meant block.now) right.now) }
 {
-    if left.len() != right.len() {
-        return false;
-    }
-    for (i, piece) in left.iter().enumerate() {
-        if !piece.same_as(&right[i], block) {
-            return false;
-        }
-    }
-    true
+    left.len() == right.len() && left.iter().zip(right).all(|(a, b)| a.same_as(b, block))
 }
 
 // Refuses pieces of which one has a bad text.

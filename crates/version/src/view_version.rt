@@ -8,7 +8,7 @@ ghost use Rattle.version.specs.Meaning.{content_of, version_verdict, renumbered,
 
 use super::piece::{Piece, check_pieces, same_pieces};
 use register::fault::RecordFault;
-use register::numbered::{Identified, Lawful, Numbered};
+use register::numbered::{Identified, Numbered};
 use text::bytes::is_ascii;
 use text::property::{Property, out_of_order};
 use text::text::{Text, TextFault};
@@ -58,6 +58,7 @@ impl<'v> ViewVersion<'v> {
 }
 
 // Both catalogs absent, or the same text.
+// Kept: `==` of two options would compare places in the block, and not texts.
 fn same_catalog(left: Option<Text>, right: Option<Text>, block: &[u8]) -> bool
     ensures { result ≡ same_text (option_map (bytes_of block.now) left) (option_map (bytes_of block.now) right) }
 {
@@ -84,12 +85,9 @@ fn check_texts(version: &ViewVersion, block: &[u8]) -> Result<(), TextFault>
 fn has_ascii_dialects(representations: &[SqlViewRepresentation], block: &[u8]) -> bool
     ensures { result ≡ all (λ q. ascii (bytes_of block.now q.dialect)) representations.now }
 {
-    for representation in representations {
-        if !is_ascii(representation.dialect.bytes(block)) {
-            return false;
-        }
-    }
-    true
+    representations
+        .iter()
+        .all(|r| is_ascii(r.dialect.bytes(block)))
 }
 
 impl Identified for ViewVersion<'_> {
@@ -152,12 +150,10 @@ impl Numbered for ViewVersion<'_> {
         }
         Ok(())
     }
-}
 
-impl Lawful for ViewVersion<'_> {
     ghost decides = { same_law };
 
-    ghost own = { λ x. refl };
+    ghost own_copy = { λ x. refl };
 
     ghost again = { λ i j x. refl };
 

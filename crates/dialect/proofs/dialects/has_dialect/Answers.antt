@@ -1,17 +1,14 @@
-use Rattle.std.proofs.Common.{◌∙◌, arith}
-use Rattle.version.proofs.Blank.{no_representation}
-use Rattle.dialect.proofs.Names.{any_left, any_more, any_found}
+use Rattle.std.proofs.Common.{rules, ◌∙◌}
+use Rattle.std.proofs.lemmas.Iterator.{YieldsList-from_slice}
+use Rattle.std.proofs.lemmas.Iterator.Search.{any_from_yields_List}
+use Rattle.model.specs.Bytes.{same_bytes}
+use Rattle.dialect.specs.Folding.{folded_dialect}
+use Rattle.register.proofs.Ids.{any_mapped}
 use Rattle.dialect.proofs.dialects.has_dialect.Goals as goal
-
-pub returns-then-same_folded : goal.returns-then-same_folded
-returns-then-same_folded c =
-    any_found _ _ c.args.representations.now c.loop-representation.representation-index no_representation c.loop-representation-test.true (cc)
-    ∙ c.loop-representation.invariant
-
-pub loop-representation-preserved : goal.loop-representation-preserved
-loop-representation-preserved c =
-    any_more _ _ c.args.representations.now c.loop-representation.representation-index no_representation c.loop-representation-test.true (cc)
-    ∙ c.loop-representation.invariant
+use borrow.Author.Tests.{tests}
 
 pub returns : goal.returns
-returns c = any_left _ _ c.args.representations.now c.loop-representation.representation-index (omega arith) ∙ c.loop-representation.invariant
+returns c =
+    any_from_yields_List (λ r. same_bytes (folded_dialect c.args.block.now c.args.like.now) (folded_dialect c.args.block.now r)) c.any.new.self _ c.any.result c.any.ensures.ran
+    (YieldsList-from_slice c.args.representations.now (cc)) (λ x b q k. search (rules, tests))
+    ∙ any_mapped (folded_dialect c.args.block.now) (same_bytes (folded_dialect c.args.block.now c.args.like.now)) c.args.representations.now

@@ -1,33 +1,14 @@
-use Rattle.std.proofs.Common.{◌≡◌, map, sym, refl, ap, ◌∙◌, ap₂, arith, w32, to_z, of_z, rules}
-use lib.Signed.{lt_z}
-use Rattle.std.proofs.lemmas.Int.{to_z-of_z}
-use Rattle.std.proofs.lemmas.List.{take_all}
+use Rattle.std.proofs.Common.{rules, sym, ◌∙◌, int_lt}
+use Rattle.std.proofs.lemmas.Iterator.{YieldsList-from_slice}
+use Rattle.std.proofs.lemmas.Iterator.Consumers.{YieldsList-from_filter, count_from_yields_List}
 use Rattle.expiry.specs.Expiry.{higher_than}
-use Rattle.expiry.proofs.Places.{higher_yes, higher_no}
+use Rattle.expiry.proofs.Meanings.{count_map}
 use Rattle.expiry.proofs.expire.higher.Goals as goal
-use Rattle.expiry.proofs.expire.higher.Goals.{then-id, else-id}
-
-pub loop-v-init : goal.loop-v-init
-unfolding higher_than
-loop-v-init g c = (omega arith, refl)
-
-pub loop-v-preserved : goal.loop-v-preserved
-loop-v-preserved g c =
-    let f = g.T.Identified.named in
-    let z : to_z w32 (of_z w32 c.id.result) ≡ f c.v-item.result = to_z-of_z w32 c.id.result (search rules) ∙ c.id.ensures in
-    let i = to_z w32 (of_z w32 c.args.id) in
-    elim c.if-id.branch [
-      | then-id w ↦ (
-        omega (arith, w.count-is),
-        w.count-is ∙ higher_yes f c.args.items.now c.loop-v.v-index i c.loop-v-test.true c.v-item.is c.loop-v.invariant.1 (ap (lt_z i) (sym z) ∙ w.if-id.true),
-      )
-      | else-id w ↦ (
-        omega (arith, w.count-is),
-        w.count-is ∙ higher_no f c.args.items.now c.loop-v.v-index i c.loop-v-test.true c.v-item.is c.loop-v.invariant.1 (ap (lt_z i) (sym z) ∙ w.if-id.false),
-      )
-    ]
+use borrow.Author.Tests.{tests}
 
 pub returns : goal.returns
+unfolding higher_than
 returns g c =
-    c.loop-v.invariant.1
-    ∙ ap₂ (λ xs i. higher_than (map g.T.Identified.named xs) i) (take_all c.loop-v.v-index c.args.items.now c.loop-v-test.false) (to_z-of_z w32 c.args.id c.ranges.id)
+    count_from_yields_List c.filter.result _ c.count.ensures.ran
+    (YieldsList-from_filter _ (λ v. int_lt c.args.id (g.T.Identified.named v)) (YieldsList-from_slice c.args.items.now (cc)) c.filter.ensures.closure (λ x b q k. search (rules, tests)))
+    ∙ sym (count_map g.T.Identified.named (int_lt c.args.id) c.args.items.now)

@@ -1,40 +1,18 @@
-use Rattle.std.proofs.Common.{◌≡◌, ◌<◌, ◌≤◌, Bool, map, sym, ap, ◌∙◌, subst, w32, to_z, of_z, rules}
-use Rattle.std.proofs.lemmas.Int.{to_z-of_z}
-use Rattle.std.proofs.lemmas.List.{take_all}
-use Rattle.std.proofs.lemmas.Bool.{lt-ltb, le-ltb}
-use Rattle.model.specs.Ids.{lowest_id_where}
-use Rattle.register.proofs.Ids.{lowest_step, lowest_skip}
-use Rattle.expiry.specs.Expiry.{higher_than, has_place, at_least}
-use Rattle.expiry.proofs.Places.{least_new, lowest_stays}
+use Rattle.std.proofs.Common.{rules, map, filter, sym, ◌∙◌}
+use Rattle.std.specs.Int.{int_min}
+use Rattle.std.proofs.lemmas.Iterator.{YieldsList-from_slice, YieldsList-from_map}
+use Rattle.std.proofs.lemmas.Iterator.Adapters.{option_map_id}
+use Rattle.std.proofs.lemmas.Iterator.Consumers.{YieldsList-at, YieldsList-from_filter, reduce_by_from_yields_List}
+use Rattle.register.proofs.Ids.{less_is, lowest_is}
+use Rattle.expiry.specs.Expiry.{has_place}
 use Rattle.expiry.proofs.expire.lowest_placed.Goals as goal
-use Rattle.expiry.proofs.expire.lowest_placed.Goals.{then-not-at_least+then-higher-places, else-not-at_least, else-not-at_least-via-then-not-at_least+else-higher-places, else-not-at_least-via-else-not-at_least}
-
-pub loop-v-preserved : goal.loop-v-preserved
-loop-v-preserved g c =
-    let f = g.T.Identified.named in
-    let xs = c.args.items.now in
-    let test : g.row.T.Denot → Bool = λ x. has_place (map f xs) c.args.places (f x) in
-    let z : to_z w32 (of_z w32 c.id-id.result) ≡ f c.v-item.result = to_z-of_z w32 c.id-id.result (search rules) ∙ c.id-id.ensures in
-    elim c.if-not-at_least.branch [
-      | then-not-at_least+then-higher-places w ↦
-          w.best-is
-          ∙ lowest_step f xs c.loop-v.v-index c.loop-v-test.true c.v-item.is test c.loop-v.invariant
-          (lt-ltb (higher_than (map f xs) (f c.v-item.result)) c.args.places (subst (λ n. n < c.args.places) (w.higher.ensures ∙ ap (higher_than (map f xs)) z) w.if-higher-places.true))
-          z (least_new _ c.loop-v.best (sym c.at_least.ensures ∙ w.if-not-at_least.true))
-      | else-not-at_least w ↦
-          w.best-is
-          ∙ (elim w.else-not-at_least.branch [
-            | else-not-at_least-via-then-not-at_least+else-higher-places v ↦
-                lowest_skip f xs c.loop-v.v-index c.loop-v-test.true c.v-item.is test c.loop-v.invariant
-                (le-ltb (higher_than (map f xs) (f c.v-item.result)) c.args.places (subst (λ n. c.args.places ≤ n) (v.higher.ensures ∙ ap (higher_than (map f xs)) z) v.if-higher-places.false))
-            | else-not-at_least-via-else-not-at_least v ↦
-                lowest_stays f xs c.loop-v.v-index c.loop-v-test.true c.v-item.is test c.loop-v.invariant
-                (ap (at_least c.loop-v.best) (sym z) ∙ sym c.at_least.ensures ∙ v.if-not-at_least.false)
-          ])
-    ]
+use borrow.Author.Tests.{tests}
 
 pub returns : goal.returns
 returns g c =
-    c.loop-v.invariant
-    ∙ ap (λ xs. lowest_id_where g.T.Identified.named (λ x. has_place (map g.T.Identified.named c.args.items.now) c.args.places (g.T.Identified.named x)) xs)
-    (take_all c.loop-v.v-index c.args.items.now c.loop-v-test.false)
+    sym (option_map_id c.min.result)
+    ∙ reduce_by_from_yields_List _ int_min c.map.result c.min.result less_is c.min.ensures.ran
+    (YieldsList-from_map _ g.T.Identified.named
+    (YieldsList-at c.map.ensures.source (YieldsList-from_filter _ (λ x. has_place (map g.T.Identified.named c.args.items.now) c.args.places (g.T.Identified.named x)) (YieldsList-from_slice c.args.items.now (cc)) c.filter.ensures.closure (λ x b q k. search (rules, tests))))
+    c.map.ensures.closure (λ x r q k. search (rules, tests)))
+    ∙ lowest_is (map g.T.Identified.named (filter (λ x. has_place (map g.T.Identified.named c.args.items.now) c.args.places (g.T.Identified.named x)) c.args.items.now))

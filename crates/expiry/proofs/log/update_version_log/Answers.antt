@@ -1,35 +1,17 @@
-use Rattle.std.proofs.Common.{◌≡◌, ◌+◌, ◌≤◌, map, get_or, take, drop, ℤ, pos, sym, ap, ◌∙◌, subst, arith, w32, rules}
-use Rattle.std.proofs.lemmas.List.{take_all}
-use Rattle.std.proofs.lemmas.Int.{to_z-of_z}
-use Rattle.model.specs.Ids.{holds}
-use Rattle.model.specs.Build.{kept_log}
+use Rattle.std.proofs.Common.{rules, map, reverse, ◌∙◌}
+use Rattle.std.proofs.lemmas.Iterator.Consumers.{count_from_yields_List}
+use Rattle.std.proofs.lemmas.Iterator.Adapters.{YieldsList-from_rev_slice}
+use Rattle.std.proofs.lemmas.Iterator.Search.{YieldsList-from_take_while}
+use Rattle.std.proofs.lemmas.List.Folds.{length-prefix_len}
 use Rattle.version.specs.Meaning.{entry_of}
-use Rattle.version.specs.declared.view_version.ViewVersionLog.{ViewVersionLog}
-use Rattle.expiry.proofs.Entries.{kept_log_more, kept_log_anew}
+use Rattle.expiry.proofs.Entries.{named_by, kept_is}
 use Rattle.expiry.proofs.log.update_version_log.Goals as goal
-use Rattle.expiry.proofs.log.update_version_log.Goals.{then-not-holds_id, else-not-holds_id}
+use borrow.Author.Tests.{tests}
 
-abbrev none : ViewVersionLog
-none = record { version_id = pos 0; timestamp_ms = pos 0 }
-
-pub loop-i-preserved : goal.loop-i-preserved
-loop-i-preserved g c =
+pub returns-clause-entries : goal.returns-clause-entries
+returns-clause-entries g c =
     let ids = map g.T.Identified.named c.args.kept.now in
-    let z : ℤ = (get_or c.args.log.now c.loop-i.i none).version_id in
-    let is : holds z ids ≡ c.holds_id.result = ap (λ i. holds i ids) (sym (to_z-of_z w32 z (search rules))) ∙ sym c.holds_id.ensures in
-    elim c.if-not-holds_id.branch [
-      | then-not-holds_id w ↦ subst (λ from. (from ≤ c.loop-i.i + 1) × (map entry_of (drop from (take (c.loop-i.i + 1) c.args.log.now)) ≡ kept_log ids (map entry_of (take (c.loop-i.i + 1) c.args.log.now))))
-          (sym w.from-is)
-          (omega arith, kept_log_anew entry_of ids c.args.log.now c.loop-i.i none c.loop-i-test.true (is ∙ w.if-not-holds_id.true))
-      | else-not-holds_id w ↦ subst (λ from. (from ≤ c.loop-i.i + 1) × (map entry_of (drop from (take (c.loop-i.i + 1) c.args.log.now)) ≡ kept_log ids (map entry_of (take (c.loop-i.i + 1) c.args.log.now))))
-          (sym w.from-is)
-          (omega arith, kept_log_more entry_of ids c.args.log.now c.loop-i.i none c.loop-i-test.true c.loop-i.from c.loop-i.invariant.0 (is ∙ w.if-not-holds_id.false) c.loop-i.invariant.1)
-    ]
-
-pub returns : goal.returns
-returns g c =
-    let all = take_all c.loop-i.i c.args.log.now c.loop-i-test.false in
-    record {
-      within = omega (arith, c.loop-i.invariant.0);
-      entries = ap (λ xs. map entry_of (drop c.loop-i.from xs)) (sym all) ∙ c.loop-i.invariant.1 ∙ ap (λ xs. kept_log (map g.T.Identified.named c.args.kept.now) (map entry_of xs)) all;
-    }
+    kept_is entry_of ids c.args.log.now c.count.result
+    (count_from_yields_List c.take_while-kept_entries.result _ c.count.ensures.ran
+    (YieldsList-from_take_while _ (named_by entry_of ids) (YieldsList-from_rev_slice c.args.log.now (cc)) c.take_while-kept_entries.ensures.closure c.take_while-kept_entries.ensures.done (λ x b q k. search (rules, tests)))
+    ∙ length-prefix_len (named_by entry_of ids) (reverse c.args.log.now))

@@ -1,15 +1,14 @@
-use Rattle.std.proofs.Common.{map, Some, ap, ◌∙◌, arith, w32, rules}
-use Rattle.std.proofs.lemmas.Int.{to_z-of_z}
-use Rattle.std.proofs.lemmas.List.{take_all}
-use Rattle.model.specs.Ids.{highest}
-use Rattle.register.proofs.Ids.{highest_step}
+use Rattle.std.proofs.Common.{sym, rules, map, ◌∙◌}
+use Rattle.std.proofs.lemmas.Iterator.{YieldsList-from_slice, YieldsList-from_map}
+use Rattle.std.proofs.lemmas.Iterator.Consumers.{reduce_by_from_yields_List}
+use Rattle.std.specs.Int.{int_max}
+use Rattle.std.proofs.lemmas.Iterator.Adapters.{option_map_id}
+use Rattle.register.proofs.Ids.{greater_is, highest_is}
 use Rattle.register.proofs.register.highest_of.Goals as goal
-
-pub loop-x-preserved : goal.loop-x-preserved
-loop-x-preserved g c =
-    ap Some (to_z-of_z w32 c.greatest.result (search rules))
-    ∙ highest_step g.T.Identified.named c.args.items.now c.loop-x.x-index c.loop-x-test.true c.x-item.is c.loop-x.invariant
-    (to_z-of_z w32 c.id.result (search rules) ∙ c.id.ensures) c.greatest.ensures
+use borrow.Author.Tests.{tests}
 
 pub returns : goal.returns
-returns g c = c.loop-x.invariant ∙ ap (λ l. highest (map g.T.Identified.named l)) (take_all c.loop-x.x-index c.args.items.now (omega arith))
+returns g c =
+    sym (option_map_id c.max.result)
+    ∙ reduce_by_from_yields_List _ int_max c.map.result c.max.result greater_is c.max.ensures.ran (YieldsList-from_map _ g.T.Identified.named (YieldsList-from_slice c.args.items.now (cc)) c.map.ensures.closure (λ x r q k. search (rules, tests)))
+    ∙ highest_is (map g.T.Identified.named c.args.items.now)

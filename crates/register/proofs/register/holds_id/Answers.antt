@@ -1,11 +1,13 @@
-use Rattle.std.proofs.Common.{map, is_some, ap, ◌∙◌, w32, to_z, of_z}
-use Rattle.std.proofs.lemmas.Int.{to_z-of_z}
-use Rattle.model.specs.Ids.{holds}
-use Rattle.register.proofs.Ids.{holds_found}
+use Rattle.std.proofs.Common.{rules, ◌∙◌}
+use Rattle.std.proofs.lemmas.Iterator.{YieldsList-from_slice}
+use Rattle.std.proofs.lemmas.Iterator.Search.{any_from_yields_List}
+use Rattle.model.specs.Ids.{same_number}
+use Rattle.register.proofs.Ids.{any_mapped, asks_id}
 use Rattle.register.proofs.register.holds_id.Goals as goal
+use borrow.Author.Tests.{tests}
 
 pub returns : goal.returns
 returns g c =
-    c.is_some.ensures ∙ (ap is_some c.find.ensures
-    ∙ (holds_found g.T.Identified.named (to_z w32 (of_z w32 c.args.id)) c.args.items.now
-    ∙ ap (λ k. holds k (map g.T.Identified.named c.args.items.now)) (to_z-of_z w32 c.args.id c.ranges.id)))
+    any_from_yields_List (λ x. same_number (g.T.Identified.named x) c.args.id) c.any.new.self _ c.any.result c.any.ensures.ran (YieldsList-from_slice c.args.items.now (cc))
+    (λ x b q k. search (rules, tests, asks_id (g.T.Identified.named x.now) c.args.id))
+    ∙ any_mapped g.T.Identified.named (λ j. same_number j c.args.id) c.args.items.now

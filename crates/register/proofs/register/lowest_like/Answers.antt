@@ -1,23 +1,17 @@
-use Rattle.std.proofs.Common.{Some, sym, ap, ◌∙◌, arith, w32, rules}
-use Rattle.std.proofs.lemmas.Int.{to_z-of_z}
-use Rattle.std.proofs.lemmas.List.{take_all}
-use Rattle.register.specs.Registers.{same_id}
-use Rattle.register.proofs.Ids.{lowest_step, lowest_skip}
+use Rattle.std.proofs.Common.{sym, rules, map, filter, ◌∙◌}
+use Rattle.std.proofs.lemmas.Iterator.{YieldsList-from_slice, YieldsList-from_map}
+use Rattle.std.proofs.lemmas.Iterator.Consumers.{YieldsList-at, YieldsList-from_filter, reduce_by_from_yields_List}
+use Rattle.std.specs.Int.{int_min}
+use Rattle.std.proofs.lemmas.Iterator.Adapters.{option_map_id}
+use Rattle.register.proofs.Ids.{less_is, lowest_is}
 use Rattle.register.proofs.register.lowest_like.Goals as goal
-use Rattle.register.proofs.register.lowest_like.Goals.{then-same, else-same}
-
-pub loop-x-preserved : goal.loop-x-preserved
-loop-x-preserved g c =
-    elim c.if-same.branch [
-      | then-same w ↦ w.best-is ∙ (ap Some (to_z-of_z w32 w.least.result (search rules))
-          ∙ lowest_step g.T.Identified.named c.args.items.now c.loop-x.x-index c.loop-x-test.true c.x-item.is
-          (λ t. g.T.Numbered.alike (g.T.Numbered.content c.args.block.now t) (g.T.Numbered.content c.args.block.now c.args.thing.now)) c.loop-x.invariant
-          (sym c.same.ensures ∙ w.if-same.true) (to_z-of_z w32 w.id.result (search rules) ∙ w.id.ensures) w.least.ensures)
-      | else-same w ↦ w.best-is ∙
-          lowest_skip g.T.Identified.named c.args.items.now c.loop-x.x-index c.loop-x-test.true c.x-item.is
-          (λ t. g.T.Numbered.alike (g.T.Numbered.content c.args.block.now t) (g.T.Numbered.content c.args.block.now c.args.thing.now)) c.loop-x.invariant
-          (sym c.same.ensures ∙ w.if-same.false)
-    ]
+use borrow.Author.Tests.{tests}
 
 pub returns : goal.returns
-returns g c = c.loop-x.invariant ∙ ap (same_id g.T.Identified g.T.Numbered c.args.block.now c.args.thing.now) (take_all c.loop-x.x-index c.args.items.now (omega arith))
+returns g c =
+    sym (option_map_id c.min.result)
+    ∙ reduce_by_from_yields_List _ int_min c.map.result c.min.result less_is c.min.ensures.ran
+    (YieldsList-from_map _ g.T.Identified.named
+    (YieldsList-at c.map.ensures.source (YieldsList-from_filter _ (λ x. g.T.Numbered.alike (g.T.Numbered.content c.args.block.now x) (g.T.Numbered.content c.args.block.now c.args.thing.now)) (YieldsList-from_slice c.args.items.now (cc)) c.filter.ensures.closure (λ x b q k. search (rules, tests))))
+    c.map.ensures.closure (λ x r q k. search (rules, tests)))
+    ∙ lowest_is (map g.T.Identified.named (filter (λ x. g.T.Numbered.alike (g.T.Numbered.content c.args.block.now x) (g.T.Numbered.content c.args.block.now c.args.thing.now)) c.args.items.now))

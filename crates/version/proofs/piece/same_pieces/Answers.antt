@@ -1,21 +1,12 @@
-use Rattle.std.proofs.Common.{sym, ◌∙◌, arith}
-use Rattle.version.proofs.Looped.{lengths_differ, none_left, match_more, match_fails}
+use Rattle.std.proofs.Common.{rules, ◌∙◌}
+use Rattle.std.proofs.lemmas.Iterator.{YieldsList-from_slice, YieldsList-from_zip}
+use Rattle.std.proofs.lemmas.Iterator.Search.{all_from_yields_List}
+use Rattle.version.proofs.Looped.{alike_at, matched}
 use Rattle.version.proofs.piece.same_pieces.Goals as goal
+use borrow.Author.Tests.{tests}
 
 pub returns-then-left-right : goal.returns-then-left-right
-returns-then-left-right g c = lengths_differ _ _ c.args.left.now c.args.right.now c.if-left-right.true
-
-pub returns-then-not-same_as : goal.returns-then-not-same_as
-returns-then-not-same_as g c =
-    match_fails _ _ c.args.left.now c.args.right.now c.loop-i.i c.loop-i-test.true (sym c.index-left-i.is) (omega arith) (sym c.index-right-i.is)
-    (sym c.same_as.ensures ∙ c.if-not-same_as.true)
-    ∙ c.loop-i.invariant
-
-pub loop-i-preserved : goal.loop-i-preserved
-loop-i-preserved g c =
-    match_more _ _ c.args.left.now c.args.right.now c.loop-i.i c.loop-i-test.true (sym c.index-left-i.is) (omega arith) (sym c.index-right-i.is)
-    (sym c.same_as.ensures ∙ c.if-not-same_as.false)
-    ∙ c.loop-i.invariant
-
-pub returns : goal.returns
-returns g c = none_left _ _ c.args.left.now c.args.right.now c.loop-i.i (omega arith) (omega arith) ∙ c.loop-i.invariant
+returns-then-left-right g c =
+    all_from_yields_List (alike_at (g.T.Piece.meant c.args.block.now) g.T.Piece.alike) c.all.new.self _ c.all.result c.all.ensures.ran
+    (YieldsList-from_zip (YieldsList-from_slice c.args.left.now (cc)) (YieldsList-from_slice c.args.right.now (cc))) (λ x b q k. search (rules, tests))
+    ∙ matched (g.T.Piece.meant c.args.block.now) g.T.Piece.alike c.args.left.now c.args.right.now c.if-left-right.true

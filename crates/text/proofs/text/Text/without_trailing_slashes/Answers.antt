@@ -1,27 +1,14 @@
-use Rattle.std.proofs.Common.{◌≡◌, length, take, refl, ap, ◌∙◌, arith}
-use Rattle.model.specs.Bytes.{trimmed}
-use Rattle.std.proofs.lemmas.List.{take_all}
-use Rattle.text.proofs.Slashes.{slash_less, other_ends, none_ends, trimmed_part}
+use Rattle.std.proofs.Common.{rules, ◌≡◌, reverse, refl}
+use Rattle.std.proofs.lemmas.Iterator.Consumers.{count_from_yields_List}
+use Rattle.std.proofs.lemmas.Iterator.Adapters.{YieldsList-from_rev_slice, YieldsList-from_skip_while}
+use Rattle.text.proofs.Slashes.{is_slash, left, trimmed_part}
 use Rattle.text.proofs.text.Text.without_trailing_slashes.Goals as goal
-use Rattle.text.proofs.text.Text.without_trailing_slashes.Goals.{then-loop-end-test+else-bytes-end-eq47, else-loop-end-test}
-
-pub loop-end-init : goal.loop-end-init
-loop-end-init c = (omega arith, ap trimmed (take_all (length c.bytes-bytes.result.now) c.bytes-bytes.result.now (omega arith)))
-
-pub loop-end-preserved : goal.loop-end-preserved
-loop-end-preserved c = (
-  omega arith,
-  slash_less c.bytes-bytes.result.now c.loop-end.end (omega arith) c.loop-end.invariant.0 c.if-bytes-end-eq47.true ∙ c.loop-end.invariant.1,
-)
-
-ended : (c : goal.Left-loop-end) → trimmed (take c.loop-end.end c.bytes-bytes.result.now) ≡ take c.loop-end.end c.bytes-bytes.result.now
-ended c =
-    elim c.loop-end-test.branch [
-      | then-loop-end-test+else-bytes-end-eq47 w ↦ other_ends c.bytes-bytes.result.now c.loop-end.end w.loop-end-test.true c.loop-end.invariant.0 w.if-bytes-end-eq47.false
-      | else-loop-end-test w ↦ none_ends c.bytes-bytes.result.now c.loop-end.end w.loop-end-test.false
-    ]
+use borrow.Author.Tests.{tests}
 
 pub returns : goal.returns
 returns c =
-    let p = trimmed_part c.args.block.now c.args.self.now.place c.args.self.now.length c.loop-end.end c.bytes-bytes.ensures c.loop-end.invariant.0 c.loop-end.invariant.1 (ended c) in
+    let k : c.count.result ≡ left (reverse c.bytes.result.now) =
+    count_from_yields_List c.skip_while.result _ c.count.ensures.ran
+    (YieldsList-from_skip_while _ _ _ is_slash _ (λ x b q k. search (rules, tests)) (YieldsList-from_rev_slice c.bytes.result.now (cc)) (cc) (cc)) in
+    let p = trimmed_part c.args.block.now c.args.self.now.place c.args.self.now.length c.count.result c.bytes.ensures k in
     record { bytes = p.0; place = refl; length = p.1 }

@@ -30,7 +30,7 @@ returns-in_err-record g c =
       did =
           unrecorded (reading g.S.Identified g.S.Numbered g.S.SchemaKind) schema_fault _ b _ c.record.result c.record.ensures.answer (with_last_schema j (with_schemas (pushed y b.schemas) b)) refl
           (entered_noted g.S.Identified g.S.Numbered g.S.SchemaKind b c.args.schema g.met.S.SchemaKind.first j y _ (sym c.next_id.ensures ∙ c.in_ok-id.was)
-          (copied_in g.S.Identified g.S.Numbered g.S.SchemaKind b c.args.schema g.met.S.Lawful.renamed g.met.S.Lawful.contents g.met.S.Lawful.verdicts g.met.S.SchemaKind.part y j (c.with_id-stored.ensures ∙ ap (λ i. g.S.Numbered.copied i c.args.schema) z))
+          (copied_in g.S.Identified g.S.Numbered g.S.SchemaKind b c.args.schema g.met.S.Numbered.renamed g.met.S.Numbered.contents g.met.S.Numbered.verdicts g.met.S.SchemaKind.part y j (c.with_id-stored.ensures ∙ ap (λ i. g.S.Numbered.copied i c.args.schema) z))
           (to_z-of_z w32 c.highest_field_id.result (search rules) ∙ c.highest_field_id.ensures))
           c.from_residual-in_err-record.result _ _ c.in_err-record.was (err_means schema_fault _ Changes c.from_residual-in_err-record.ensures.1) c.record.ensures.builder;
       answer = no_schema_answer c.from_residual-in_err-record.result _ c.from_residual-in_err-record.ensures.0;
@@ -47,7 +47,7 @@ returns g c =
       did =
           noted (reading g.S.Identified g.S.Numbered g.S.SchemaKind) schema_fault _ b _ c.record.result c.record.ensures.answer (with_last_schema j (with_schemas (pushed y b.schemas) b)) refl
           (entered_noted g.S.Identified g.S.Numbered g.S.SchemaKind b c.args.schema g.met.S.SchemaKind.first j y _ (sym c.next_id.ensures ∙ c.in_ok-id.was)
-          (copied_in g.S.Identified g.S.Numbered g.S.SchemaKind b c.args.schema g.met.S.Lawful.renamed g.met.S.Lawful.contents g.met.S.Lawful.verdicts g.met.S.SchemaKind.part y j (c.with_id-stored.ensures ∙ ap (λ i. g.S.Numbered.copied i c.args.schema) z))
+          (copied_in g.S.Identified g.S.Numbered g.S.SchemaKind b c.args.schema g.met.S.Numbered.renamed g.met.S.Numbered.contents g.met.S.Numbered.verdicts g.met.S.SchemaKind.part y j (c.with_id-stored.ensures ∙ ap (λ i. g.S.Numbered.copied i c.args.schema) z))
           (to_z-of_z w32 c.highest_field_id.result (search rules) ∙ c.highest_field_id.ensures))
           _ _ _ c.in_ok-record.was
           (λ h. with_last_schema (z h) (with_schemas ((c.push.ensures.register ∙ ap (λ t. pushed y t.schemas) c.record.ensures.builder) h) (c.record.ensures.builder h)));

@@ -19,7 +19,7 @@ returns-in_err-record g c =
           unrecorded (reading g.S.Identified g.S.Numbered g.S.SchemaKind) schema_fault _ b (AddSchema c.with_id.result None) c.record.result c.record.ensures.answer (with_last_schema c.args.id b) refl
           (reuse_noted g.S.Identified g.S.Numbered g.S.SchemaKind b c.args.schema c.args.id c.with_id.result
           (ap (is_id b.last_added_schema_id) (sym z) ∙ (sym c.is_last.ensures ∙ c.if-is_last.false))
-          (copied_in g.S.Identified g.S.Numbered g.S.SchemaKind b c.args.schema g.met.S.Lawful.renamed g.met.S.Lawful.contents g.met.S.Lawful.verdicts g.met.S.SchemaKind.part c.with_id.result c.args.id (c.with_id.ensures ∙ ap (λ j. g.S.Numbered.copied j c.args.schema) z)))
+          (copied_in g.S.Identified g.S.Numbered g.S.SchemaKind b c.args.schema g.met.S.Numbered.renamed g.met.S.Numbered.contents g.met.S.Numbered.verdicts g.met.S.SchemaKind.part c.with_id.result c.args.id (c.with_id.ensures ∙ ap (λ j. g.S.Numbered.copied j c.args.schema) z)))
           c.from_residual.result _ _ c.in_err-record.was (err_means schema_fault _ Changes c.from_residual.ensures.1) c.record.ensures.builder;
       answer = no_schema_answer c.from_residual.result _ c.from_residual.ensures.0;
       block = ap (λ t. t.text.now) c.record.ensures.builder;
@@ -34,7 +34,7 @@ returns g c =
           noted (reading g.S.Identified g.S.Numbered g.S.SchemaKind) schema_fault _ b (AddSchema c.with_id.result None) c.record.result c.record.ensures.answer (with_last_schema c.args.id b) refl
           (reuse_noted g.S.Identified g.S.Numbered g.S.SchemaKind b c.args.schema c.args.id c.with_id.result
           (ap (is_id b.last_added_schema_id) (sym z) ∙ (sym c.is_last.ensures ∙ c.if-is_last.false))
-          (copied_in g.S.Identified g.S.Numbered g.S.SchemaKind b c.args.schema g.met.S.Lawful.renamed g.met.S.Lawful.contents g.met.S.Lawful.verdicts g.met.S.SchemaKind.part c.with_id.result c.args.id (c.with_id.ensures ∙ ap (λ j. g.S.Numbered.copied j c.args.schema) z)))
+          (copied_in g.S.Identified g.S.Numbered g.S.SchemaKind b c.args.schema g.met.S.Numbered.renamed g.met.S.Numbered.contents g.met.S.Numbered.verdicts g.met.S.SchemaKind.part c.with_id.result c.args.id (c.with_id.ensures ∙ ap (λ j. g.S.Numbered.copied j c.args.schema) z)))
           _ _ _ c.in_ok-record.was (λ j. with_last_schema (z j) (c.record.ensures.builder j));
       answer = search rules;
       block = ap (λ t. t.text.now) c.record.ensures.builder;
