@@ -31,11 +31,11 @@ pub fn holds_id<T: Identified>(items: &[T], id: i32) -> bool
 fn lowest_like<T: Numbered>(items: &[T], thing: &T, block: &[u8]) -> Option<i32>
     ensures { result ≡ same_id T.Identified T.Numbered.own block.now thing.now items.now }
 {
-    items
+    let ids = items
         .iter()
         .filter(|x| x.same(thing, block))
-        .map(|x| x.id())
-        .min()
+        .map(|x| x.id());
+    ids.min()
 }
 
 // The highest id.

@@ -6,6 +6,7 @@ use Rattle.std.proofs.lemmas.Slice.Eq.{slice_eq-Decides, compares_Decides}
 use Rattle.std.proofs.lemmas.List.{get_or_past}
 use Rattle.std.proofs.lemmas.Cmp.{same_from_slice_cmp_tested}
 use Rattle.std.proofs.lemmas.Bool.Decides.{same_from_decides, nat_tests, Decides-eqb}
+use Rattle.std.specs.List.{list_all}
 use Rattle.std.specs.Bool.{MatchBool}
 use Rattle.std.specs.Str.{IsAscii, IsNotAscii}
 use Rattle.std.proofs.lemmas.List.Recursion.{and_is}
@@ -23,7 +24,7 @@ pub before_is : (xs ys : Bytes) (r : Bool) → r ≡ is_some_and is_lt (slice_pa
 before_is = same_from_slice_cmp_tested nat_cmp is_lt before refl (λ _ _. refl) (λ _ _. refl) (λ x y xs ys o h. grind (arith, nat_tests))
 
 -- no byte is 128 or above
-pub ascii_is : (bs : Bytes) (r : Bool) → MatchBool r (IsAscii bs) (IsNotAscii bs) → r ≡ ascii bs
+pub ascii_is : (bs : Bytes) (r : Bool) → MatchBool r (IsAscii bs) (IsNotAscii bs) → r ≡ list_all (λ b. leb b 127) bs
 ascii_is bs r m =
     and_is ascii (λ b. leb b 127) refl (λ _ _. refl) bs 0 r
     (λ e i h. let k : IsAscii bs = subst (λ t. MatchBool t (IsAscii bs) (IsNotAscii bs)) e m in le-leb (get_or bs i 0) 127 (omega (arith, k i)))

@@ -16,6 +16,7 @@ pub fn before(a: &[u8], b: &[u8]) -> bool
 }
 
 // No byte is above 127.
+#[tactic(auto, using(crate::proofs::Compared::ascii_is))]
 pub fn is_ascii(a: &[u8]) -> bool
     ensures { result ≡ ascii a.now }
 {

@@ -10,8 +10,8 @@ use borrow.Author.Tests.{tests}
 pub returns : goal.returns
 returns g c =
     sym (option_map_id c.min.result)
-    ∙ reduce_by_from_yields_List _ int_min c.map.result c.min.result less_is c.min.ensures.ran
+    ∙ reduce_by_from_yields_List _ int_min c.map-ids.result c.min.result less_is c.min.ensures.ran
     (YieldsList-from_map _ g.T.Identified.named
-    (YieldsList-at c.map.ensures.source (YieldsList-from_filter _ (λ x. g.T.Numbered.alike (g.T.Numbered.content c.args.block.now x) (g.T.Numbered.content c.args.block.now c.args.thing.now)) (YieldsList-from_slice c.args.items.now (cc)) c.filter.ensures.closure (λ x b q k. search (rules, tests))))
-    c.map.ensures.closure (λ x r q k. search (rules, tests)))
+    (YieldsList-at c.map-ids.ensures.source (YieldsList-from_filter _ (λ x. g.T.Numbered.alike (g.T.Numbered.content c.args.block.now x) (g.T.Numbered.content c.args.block.now c.args.thing.now)) (YieldsList-from_slice c.args.items.now (cc)) c.filter.ensures.closure (λ x b q k. search (rules, tests))))
+    c.map-ids.ensures.closure (λ x r q k. search (rules, tests)))
     ∙ lowest_is (map g.T.Identified.named (filter (λ x. g.T.Numbered.alike (g.T.Numbered.content c.args.block.now x) (g.T.Numbered.content c.args.block.now c.args.thing.now)) c.args.items.now))
