@@ -11,9 +11,9 @@ use text::bytes::same_bytes;
 pub const DEFAULT_HISTORY_SIZE: u64 = 10;
 
 // The keys of the two properties that steer build.
-const HISTORY_KEY: &[u8] = b"version.history.num-entries";
+pub const HISTORY_KEY: &[u8] = b"version.history.num-entries";
 
-const DROP_KEY: &[u8] = b"replace.drop-dialect.allowed";
+pub const DROP_KEY: &[u8] = b"replace.drop-dialect.allowed";
 
 // The key of the history size.
 pub fn is_history_key(key: &[u8]) -> bool
