@@ -1,100 +1,81 @@
--- One update more: what it adds, and whether it changes a property. Assumes nothing.
-use Rattle.std.proofs.Common.{◌≡◌, ℕ, ◌+◌, ◌<◌, ◌≤◌, Bool, true, false, not, List, [], ◌∷◌, ◌++◌, map, length, get_or, take, drop, pos, is_some, Some, None, Option, sym, refl, ap, ◌∙◌, inl, inr, arith}
-use Rattle.std.proofs.lemmas.List.{map_more, map-append, take-append-drop, drop_more}
-use Rattle.std.proofs.lemmas.Bool.{cases_Bool, and_parts}
-use Rattle.std.proofs.lemmas.Bool.Decides.{not_from_Decides}
-use Rattle.model.specs.Bytes.{Bytes, same_bytes, same_list}
-use Rattle.model.specs.Version.{Property, Content, same_property}
-use Rattle.model.specs.Edits.{out_of_order, has_key, put_property, put_properties}
+-- What updates whose keys are distinct add to the properties held, and whether they change one. Assumes nothing.
+use Rattle.std.proofs.Common.{◌≡◌, ℕ, ◌+◌, ◌<◌, ◌≤◌, get_or, drop, Bool, true, false, cond, not, List, [], ◌∷◌, map, length, pos, Some, None, Decides, Option, sym, refl, ap, ◌∙◌, ap₂, inl, inr, arith}
+use Rattle.std.specs.List.{count_by, list_any}
+use Rattle.std.specs.Option.{is_none}
+use Rattle.std.proofs.lemmas.Bool.{true≢false, cases_Bool, and_parts, or_parts}
+use Rattle.std.proofs.lemmas.Bool.Decides.{not_from_Decides, Decides-like}
+use Rattle.std.proofs.lemmas.List.{at_drop_more}
+use Rattle.std.proofs.lemmas.List.Sums.{sum_by-cons}
+use Rattle.std.proofs.lemmas.Option.{none-some, same_Some}
+use Rattle.model.specs.Bytes.{Bytes, same_list, same_bytes}
+use Rattle.model.specs.Version.{Property, Content, same_property, same_text}
+use Rattle.model.specs.Edits.{has_key, put_property, put_properties}
 use Rattle.model.specs.Build.{look_up}
 use Rattle.model.proofs.Sames.{same_law}
-use Rattle.property.proofs.Keys.{bytes_decides, none_before}
-use Rattle.property.proofs.Puts.{has_look_up, length_put, look_up_put, look_up_puts_other, put_same, puts_append, length_puts_least}
+use Rattle.property.proofs.Keys.{bytes_decides, same_sym, Distinct}
+use Rattle.property.proofs.Puts.{length_put_more, look_up_put, look_up_put_other, look_up_puts_other, put_same, length_puts_least}
 
 -- a content that is nothing but a list of properties
 abbrev listing : List Property → Content
 listing ps = record { schema_id = pos 0; summary = ps; representations = []; default_catalog = None; default_namespace = [] }
 
-pub same_listed : (ps qs : List Property) → same_list same_property ps qs ≡ true → ps ≡ qs
+same_listed : (ps qs : List Property) → same_list same_property ps qs ≡ true → ps ≡ qs
 same_listed ps qs e = ap (λ (c : Content). c.summary) ((same_law (listing ps) (listing qs)).0 (rw e))
 
-pub same_itself : (ps : List Property) → same_list same_property ps ps ≡ true
+same_itself : (ps : List Property) → same_list same_property ps ps ≡ true
 same_itself ps = (and_parts (same_list same_property ps ps) true ((same_law (listing ps) (listing ps)).1 refl)).0
 
--- the properties after the first n updates
-abbrev pub after_first : {A : Type 0} → (A → Property) → List A → List Property → ℕ → List Property
-after_first f xs held n = put_properties (map f (take n xs)) held
+same_value : (o : Option Bytes) (v : Bytes) → Decides (same_text o (Some v)) (o ≡ Some v)
+same_value None v = ((λ t. absurd (true≢false (sym t))), (λ e. absurd (none-some v e)))
+same_value (Some a) v = Decides-like (same_bytes a v) (ap Some) (same_Some a v) (bytes_decides a v)
 
--- the first i updates were gone through: so many keys are new, and whether a property changed
-pub record Counted {A : Type 0} (f : A → Property) (xs : List A) (held : List Property) (count added : ℕ) (changed : Bool) (i : ℕ) : Type 0 where
-  pub new : count + added ≡ length (after_first f xs held i)
-  pub differs : changed ≡ not (same_list same_property (after_first f xs held i) held)
-  pub few : added ≤ i
+module _ {A : Type 0} (f : A → Property) where
+  -- the key is not held
+  abbrev pub is_new : List Property → A → Bool
+  is_new held x = is_none (look_up (f x).key held)
 
-pub counted_none : {A : Type 0} (f : A → Property) (xs : List A) (held : List Property) (count : ℕ) → count ≡ length held → Counted f xs held count 0 false 0
-counted_none f xs held count e = record { new = omega arith; differs = ap not (sym (same_itself held)); few = omega arith }
+  -- the key is not held with that value
+  abbrev pub differs : List Property → A → Bool
+  differs held x = not (same_text (look_up (f x).key held) (Some (f x).value))
 
--- no update makes the list shorter
-pub after_first_least : {A : Type 0} (f : A → Property) (xs : List A) (held : List Property) (n : ℕ) → length (after_first f xs held n) ≤ length (put_properties (map f xs) held)
-after_first_least f xs held n =
-    let e : map f xs ≡ map f (take n xs) ++ map f (drop n xs) = ap (map f) (sym (take-append-drop n xs)) ∙ map-append f (take n xs) (drop n xs) in
-    omega (arith, ap (λ ps. length (put_properties ps held)) e, ap length (puts_append (map f (take n xs)) (map f (drop n xs)) held), length_puts_least (map f (drop n xs)) (after_first f xs held n))
+  -- a put of another key leaves a key as new as it was
+  as_new : (p : Property) (held : List Property) (xs : List A) → has_key p.key (map f xs) ≡ false → count_by (is_new (put_property p held)) xs ≡ count_by (is_new held) xs
+  as_new p held [] n = refl
+  as_new p held (x ∷ xs) n =
+      let m = or_parts (same_bytes p.key (f x).key) (has_key p.key (map f xs)) n in
+      let e = look_up_put_other (f x).key p held (same_sym (f x).key p.key ∙ m.0) in
+      let r = as_new p held xs m.1 in
+      sum_by-cons (λ y. cond (is_new (put_property p held) y) 1 0) x xs ∙ (ap₂ (λ o n. cond (is_none o) 1 0 + n) e r ∙ sym (sum_by-cons (λ y. cond (is_new held y) 1 0) x xs))
 
-module _ {A : Type 0} (f : A → Property) (xs : List A) (held : List Property) (i : ℕ) (d : A) (in' : i < length xs) where
-  abbrev so_far : ℕ → List Property
-  so_far = after_first f xs held
+  pub counted : (xs : List A) (held : List Property) → Distinct (map f xs) → length held + count_by (is_new held) xs ≡ length (put_properties (map f xs) held)
+  counted [] held d = omega arith
+  counted (x ∷ xs) held d =
+      omega (arith, counted xs (put_property (f x) held) d.1, as_new (f x) held xs d.0, length_put_more (f x) held, sum_by-cons (λ y. cond (is_new held y) 1 0) x xs)
 
-  one_more : so_far (i + 1) ≡ put_property (f (get_or xs i d)) (so_far i)
-  one_more = ap (λ ps. put_properties ps held) (map_more f xs i d in') ∙ puts_append (map f (take i xs)) (f (get_or xs i d) ∷ []) held
+  -- a property that was put is found after the others too
+  found_after : (x : A) (xs : List A) (held : List Property) → has_key (f x).key (map f xs) ≡ false → look_up (f x).key (put_properties (map f xs) (put_property (f x) held)) ≡ Some (f x).value
+  found_after x xs held n = look_up_puts_other (f x).key (map f xs) (put_property (f x) held) n ∙ look_up_put (f x) held
 
-  pub put_next : (now' : List Property) → now' ≡ so_far i → put_property (f (get_or xs i d)) now' ≡ so_far (i + 1)
-  put_next now' e = ap (put_property (f (get_or xs i d))) e ∙ sym one_more
+  pub changed : (xs : List A) (held : List Property) → Distinct (map f xs) → list_any (differs held) xs ≡ not (same_list same_property (put_properties (map f xs) held) held)
+  changed [] held d = ap not (sym (same_itself held))
+  changed (x ∷ xs) held d =
+      let is = same_value (look_up (f x).key held) (f x).value in
+      let new = put_properties (map f xs) (put_property (f x) held) in
+      elim (cases_Bool (same_text (look_up (f x).key held) (Some (f x).value))) [
+        | inl t ↦ rw t (changed xs held d.1 ∙ ap (λ ps. not (same_list same_property (put_properties (map f xs) ps) held)) (sym (put_same (f x) held (is.0 t))))
+        | inr t ↦
+            let n : same_list same_property new held ≡ false =
+            elim (cases_Bool (same_list same_property new held)) [
+              | inl s ↦ absurd (not_from_Decides _ is t (ap (look_up (f x).key) (sym (same_listed new held s)) ∙ found_after x xs held d.0))
+              | inr s ↦ s
+            ] in
+            rw (t, n)
+      ]
 
-  pub put_has_room : (now' : List Property) (room : ℕ) → now' ≡ so_far i → length (put_properties (map f xs) held) ≤ room → length (put_property (f (get_or xs i d)) now') ≤ room
-  put_has_room now' room e h = omega (arith, h, ap length (put_next now' e), after_first_least f xs held (i + 1))
+  -- the next update is put before the others that are left
+  pub next_put : (xs : List A) (i : ℕ) (d : A) (held : List Property) → i < length xs → put_properties (map f (drop (i + 1) xs)) (put_property (f (get_or xs i d)) held) ≡ put_properties (map f (drop i xs)) held
+  next_put xs i d held h = sym (at_drop_more (λ ys. put_properties (map f ys) held) xs i d h)
 
-  module _ (ordered : out_of_order (map f xs) ≡ None) where
-    split : map f xs ≡ map f (take i xs) ++ f (get_or xs i d) ∷ map f (drop (i + 1) xs)
-    split = ap (map f) (sym (take-append-drop i xs) ∙ ap (λ t. take i xs ++ t) (drop_more xs i d in')) ∙ map-append f (take i xs) (get_or xs i d ∷ drop (i + 1) xs)
-
-    -- earlier updates leave its key as it was
-    untouched : look_up (f (get_or xs i d)).key (so_far i) ≡ look_up (f (get_or xs i d)).key held
-    untouched =
-        look_up_puts_other (f (get_or xs i d)).key (map f (take i xs)) held
-        (none_before (map f (take i xs)) (f (get_or xs i d)) (map f (drop (i + 1) xs)) (ap out_of_order (sym split) ∙ ordered))
-
-    -- it is held already
-    no_change : look_up (f (get_or xs i d)).key held ≡ Some (f (get_or xs i d)).value → so_far (i + 1) ≡ so_far i
-    no_change e = one_more ∙ put_same (f (get_or xs i d)) (so_far i) (untouched ∙ e)
-
-    -- it is not held, or with another value
-    a_change : (look_up (f (get_or xs i d)).key held ≡ Some (f (get_or xs i d)).value → ⊥) → same_list same_property (so_far (i + 1)) held ≡ false
-    a_change n =
-        elim (cases_Bool (same_list same_property (so_far (i + 1)) held)) [
-          | inl t ↦ absurd (n (ap (look_up (f (get_or xs i d)).key) (sym (same_listed (so_far (i + 1)) held t) ∙ one_more) ∙ look_up_put (f (get_or xs i d)) (so_far i)))
-          | inr t ↦ t
-        ]
-
-    known : (o : Option Bytes) → look_up (f (get_or xs i d)).key held ≡ o → has_key (f (get_or xs i d)).key (so_far i) ≡ is_some o
-    known o e = has_look_up (f (get_or xs i d)).key (so_far i) ∙ ap is_some (untouched ∙ e)
-
-    key_held : (v : Bytes) → look_up (f (get_or xs i d)).key held ≡ Some v → length (so_far (i + 1)) ≡ length (so_far i)
-    key_held v e = ap length one_more ∙ (length_put (f (get_or xs i d)) (so_far i) ∙ rw (known (Some v) e))
-
-    key_new : look_up (f (get_or xs i d)).key held ≡ None → length (so_far (i + 1)) ≡ length (so_far i) + 1
-    key_new e = ap length one_more ∙ (length_put (f (get_or xs i d)) (so_far i) ∙ rw (known None e))
-
-    pub counted_same : {count added : ℕ} {changed : Bool} (v : Bytes) → look_up (f (get_or xs i d)).key held ≡ Some v → same_bytes v (f (get_or xs i d)).value ≡ true → Counted f xs held count added changed i → Counted f xs held count added changed (i + 1)
-    counted_same v e t c =
-        let s : so_far (i + 1) ≡ so_far i = no_change (e ∙ ap Some ((bytes_decides v (f (get_or xs i d)).value).0 t)) in
-        record { new = c.new ∙ ap length (sym s); differs = c.differs ∙ ap (λ ps. not (same_list same_property ps held)) (sym s); few = omega (arith, c.few) }
-
-    pub counted_revalued : {count added : ℕ} {changed : Bool} (v : Bytes) → look_up (f (get_or xs i d)).key held ≡ Some v → same_bytes v (f (get_or xs i d)).value ≡ false → Counted f xs held count added changed i → Counted f xs held count added true (i + 1)
-    counted_revalued v e t c =
-        let n : same_list same_property (so_far (i + 1)) held ≡ false = a_change (λ w. not_from_Decides (same_bytes v (f (get_or xs i d)).value) (bytes_decides v (f (get_or xs i d)).value) t (cc)) in
-        record { new = c.new ∙ sym (key_held v e); differs = ap not (sym n); few = omega (arith, c.few) }
-
-    pub counted_new : {count added : ℕ} {changed : Bool} → look_up (f (get_or xs i d)).key held ≡ None → Counted f xs held count added changed i → Counted f xs held count (added + 1) true (i + 1)
-    counted_new e c =
-        let n : same_list same_property (so_far (i + 1)) held ≡ false = a_change (λ w. let z : ◌≡◌ {A = ℕ} 0 1 = cc in omega arith) in
-        record { new = omega (arith, c.new, key_new e); differs = ap not (sym n); few = omega (arith, c.few) }
+  pub next_fits : (xs : List A) (i : ℕ) (d : A) (held new : List Property) (room : ℕ) → i < length xs → put_properties (map f (drop i xs)) held ≡ new → length new ≤ room → length (put_property (f (get_or xs i d)) held) ≤ room
+  next_fits xs i d held new room h e n =
+      omega (arith, length_puts_least (map f (drop (i + 1) xs)) (put_property (f (get_or xs i d)) held), ap length (next_put xs i d held h), ap length e, n)

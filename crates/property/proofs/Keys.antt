@@ -1,5 +1,5 @@
 -- Keys compared: equal, and in their order. Assumes nothing.
-use Rattle.std.proofs.Common.{◌≡◌, ℕ, suc, Bool, true, false, cond, List, [], ◌∷◌, ◌++◌, Some, None, Decides, Option, sym, refl, arith}
+use Rattle.std.proofs.Common.{◌≡◌, ℕ, suc, Bool, true, false, cond, List, [], ◌∷◌, Some, None, Decides, Option, sym, refl, ◌∙◌, arith}
 use Rattle.std.proofs.lemmas.Slice.Eq.{compares_Decides}
 use Rattle.std.proofs.lemmas.Bool.{true≢false}
 use Rattle.std.proofs.lemmas.Bool.Decides.{nat_tests, same_from_decides, Decides-like}
@@ -36,14 +36,27 @@ before_differs (x ∷ xs) (y ∷ ys) p = let r : before xs ys ≡ true → same_
 cond_none : {b : Bool} (o : Option ℕ) (i : ℕ) → cond b o (Some i) ≡ None → (b ≡ true) × (o ≡ None)
 cond_none {b} o i = elim b as (λ v. cond v o (Some i) ≡ None → (v ≡ true) × (o ≡ None)) [ true ↦ λ e. (refl, e) | false ↦ λ e. let z : ◌≡◌ {A = ℕ} 0 1 = cc in absurd (omega arith) ]
 
-after_all : (i : ℕ) (k : Bytes) (front : List Property) (p : Property) (rest : List Property) → misplaced i k (front ++ p ∷ rest) ≡ None → (before k p.key ≡ true) × (has_key p.key front ≡ false)
-after_all i k [] p rest e = ((cond_none (misplaced (suc i) p.key rest) i e).0, refl)
-after_all i k (q ∷ qs) p rest e =
-    let s = cond_none (misplaced (suc i) q.key (qs ++ p ∷ rest)) i e in
-    let r = after_all (suc i) q.key qs p rest s.1 in
-    (before_trans k q.key p.key s.0 r.0, rw (before_differs q.key p.key r.0) r.1)
+-- what comes before the first of keys in order can stand there
+in_front : (i : ℕ) (j k : Bytes) (ps : List Property) → before j k ≡ true → misplaced i k ps ≡ None → misplaced i j ps ≡ None
+in_front i j k [] b e = refl
+in_front i j k (p ∷ ps) b e = let s = cond_none (misplaced (suc i) p.key ps) i e in rw (before_trans j k p.key b s.0) s.1
 
--- of keys in order, none is the same as one before it
-pub none_before : (front : List Property) (p : Property) (rest : List Property) → out_of_order (front ++ p ∷ rest) ≡ None → has_key p.key front ≡ false
-none_before [] p rest e = refl
-none_before (q ∷ qs) p rest e = let r = after_all 1 q.key qs p rest e in rw (before_differs q.key p.key r.0) r.1
+not_later : (i : ℕ) (k : Bytes) (ps : List Property) → misplaced i k ps ≡ None → has_key k ps ≡ false
+not_later i k [] e = refl
+not_later i k (p ∷ ps) e =
+    let s = cond_none (misplaced (suc i) p.key ps) i e in
+    rw (same_sym k p.key ∙ before_differs k p.key s.0) (not_later (suc i) k ps (in_front (suc i) k p.key ps s.0 s.1))
+
+-- no key comes again
+abbrev pub Distinct : List Property → Type 0
+Distinct [] = Unit {0}
+Distinct (p ∷ ps) = (has_key p.key ps ≡ false) × Distinct ps
+
+distinct_after : (i : ℕ) (k : Bytes) (ps : List Property) → misplaced i k ps ≡ None → Distinct ps
+distinct_after i k [] e = tt
+distinct_after i k (p ∷ ps) e = let s = cond_none (misplaced (suc i) p.key ps) i e in (not_later (suc i) p.key ps s.1, distinct_after (suc i) p.key ps s.1)
+
+-- of keys in order none comes again
+pub distinct : (ps : List Property) → out_of_order ps ≡ None → Distinct ps
+distinct [] e = tt
+distinct (p ∷ ps) e = (not_later 1 p.key ps e, distinct_after 1 p.key ps e)

@@ -1,5 +1,6 @@
 -- Properties put into a list: their lengths, their look-ups, and when nothing changes. Assumes nothing.
-use Rattle.std.proofs.Common.{◌≡◌, suc, ◌+◌, ◌≤◌, Bool, true, false, cond, ◌||◌, List, [], ◌∷◌, ◌++◌, length, is_some, Some, sym, refl, ap, ◌∙◌, arith}
+use Rattle.std.proofs.Common.{◌≡◌, suc, ◌+◌, ◌≤◌, Bool, true, false, cond, ◌||◌, List, [], ◌∷◌, length, is_some, Some, None, sym, refl, ap, ◌∙◌, arith}
+use Rattle.std.specs.Option.{is_none}
 use Rattle.std.proofs.lemmas.Bool.{true≢false, or_parts}
 use Rattle.model.specs.Bytes.{Bytes, same_bytes, before}
 use Rattle.model.specs.Version.{Property}
@@ -23,10 +24,15 @@ length_placed p [] = refl
 length_placed p (q ∷ qs) =
     elim (before p.key q.key) as (λ b. length (cond b (p ∷ q ∷ qs) (q ∷ placed p qs)) ≡ suc (suc (length qs))) [ true ↦ refl | false ↦ ap suc (length_placed p qs) ]
 
--- one more where the key was not held
 pub length_put : (p : Property) (held : List Property) → length (put_property p held) ≡ cond (has_key p.key held) (length held) (length held + 1)
 length_put p held =
     elim (has_key p.key held) as (λ b. length (cond b (revalued p held) (placed p held)) ≡ cond b (length held) (length held + 1)) [ true ↦ length_revalued p held | false ↦ omega (arith, length_placed p held) ]
+
+-- one more where the key was not held
+pub length_put_more : (p : Property) (held : List Property) → length (put_property p held) ≡ length held + cond (is_none (look_up p.key held)) 1 0
+length_put_more p held =
+    length_put p held
+    ∙ rw (has_look_up p.key held) (elim (look_up p.key held) as (λ o. cond (is_some o) (length held) (length held + 1) ≡ length held + cond (is_none o) 1 0) [ None ↦ refl | Some v ↦ omega arith ])
 
 pub length_put_least : (p : Property) (held : List Property) → length held ≤ length (put_property p held)
 length_put_least p held =
@@ -101,7 +107,3 @@ revalued_same p (q ∷ qs) e = by (same_bytes p.key q.key) (same_sym q.key p.key
 -- a property that is held already changes nothing
 pub put_same : (p : Property) (held : List Property) → look_up p.key held ≡ Some p.value → put_property p held ≡ held
 put_same p held e = let h : has_key p.key held ≡ true = has_look_up p.key held ∙ ap is_some e in rw h (revalued_same p held e)
-
-pub puts_append : (ps qs held : List Property) → put_properties (ps ++ qs) held ≡ put_properties qs (put_properties ps held)
-puts_append [] qs held = refl
-puts_append (p ∷ ps) qs held = puts_append ps qs (put_property p held)

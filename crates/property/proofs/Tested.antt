@@ -1,75 +1,58 @@
--- The tests of the updates, as their loops make them. Assumes nothing.
-use Rattle.std.proofs.Common.{◌≡◌, ℕ, suc, ◌+◌, ◌<◌, ◌≤◌, Bool, true, false, cond, not, ◌&&◌, List, [], ◌∷◌, map, length, get_or, drop, Some, None, Ok, Err, Option, sym, refl, ap, ◌∙◌, inl, inr, add-one, arith}
-use Rattle.std.specs.List.{prefix_len}
-use Rattle.std.proofs.lemmas.List.{at_drop_more, at_drop_all}
-use Rattle.std.proofs.lemmas.Bool.{cond-true, cond-false, cases_lt}
+-- What the searches of a list of properties find, in the words of the model. Assumes nothing.
+use Rattle.std.proofs.Common.{◌≡◌, ℕ, suc, ◌+◌, Bool, true, false, cond, not, ◌&&◌, List, [], ◌∷◌, map, Some, None, Ok, Option, sym, refl, ap, ◌∙◌, add-one, arith}
+use Rattle.std.specs.List.{find, position, position_from}
+use Rattle.std.specs.Option.{option_map}
+use Rattle.std.proofs.lemmas.Iterator.Adapters.{position_from-zero}
 use Rattle.model.specs.Bytes.{Bytes, same_bytes}
 use Rattle.model.specs.Version.{Property}
-use Rattle.model.specs.Refusals.{bad_text, properties_part}
+use Rattle.model.specs.Refusals.{bad_text, properties_part, refuse_at, then}
 use Rattle.model.specs.Numbers.{below_zero, signed_reading}
 use Rattle.model.specs.Settings.{history_key}
 use Rattle.model.specs.Edits.{read_all, negative_size}
 use Rattle.model.specs.Build.{look_up}
+use Rattle.model.proofs.Basics.{refuse_at_ok, ok_is}
 
--- what is read of a list whose good elements pass a test
+-- a list whose good elements pass a test, as it is read
 module _ {A B : Type 0} (good : A → Bool) (f : A → B) where
   abbrev read : A → Option B
   read x = cond (good x) (Some (f x)) None
 
-  abbrev front : List A → ℕ
-  front = prefix_len (λ x. not (not (good x)))
+  abbrev bad : A → Bool
+  bad x = not (good x)
 
-  pub read_good : (i : ℕ) (xs : List A) → length xs ≤ front xs → read_all i (map read xs) ≡ Ok (map f xs)
-  read_good i [] h = refl
-  read_good i (x ∷ xs) h = by (good x) h (read_good (suc i) xs)
-    where
-      by : (b : Bool) → suc (length xs) ≤ cond (not (not b)) (1 + front xs) 0 → (length xs ≤ front xs → read_all (suc i) (map read xs) ≡ Ok (map f xs)) →
-          read_all i (cond b (Some (f x)) None ∷ map read xs) ≡ Ok (f x ∷ map f xs)
-      by true l r = rw (r (omega arith))
-      by false l r = absurd (omega arith)
+  read_more : (x : A) (o : Option ℕ) (ys : List B) → then (refuse_at bad_text properties_part o (Ok ys)) (λ rest. Ok (f x ∷ rest)) ≡ refuse_at bad_text properties_part o (Ok (f x ∷ ys))
+  read_more x None ys = refl
+  read_more x (Some i) ys = refl
 
-  pub read_bad : (i : ℕ) (xs : List A) → front xs < length xs → read_all i (map read xs) ≡ Err (record { number = bad_text; part = properties_part; position = i + front xs })
-  read_bad i [] h = absurd (omega arith)
-  read_bad i (x ∷ xs) h = by (good x) h (read_bad (suc i) xs)
+  read_from : (i : ℕ) (xs : List A) → read_all i (map read xs) ≡ refuse_at bad_text properties_part (position_from bad i xs) (Ok (map f xs))
+  read_from i [] = refl
+  read_from i (x ∷ xs) = by (good x) (read_from (i + 1) xs)
     where
-      by : (b : Bool) → cond (not (not b)) (1 + front xs) 0 < suc (length xs) → (front xs < length xs → read_all (suc i) (map read xs) ≡ Err (record { number = bad_text; part = properties_part; position = suc i + front xs })) →
-          read_all i (cond b (Some (f x)) None ∷ map read xs) ≡ Err (record { number = bad_text; part = properties_part; position = i + cond (not (not b)) (1 + front xs) 0 })
-      by true l r = rw (r (omega arith)) (let e : suc i + front xs ≡ i + (1 + front xs) = omega arith in ap (λ n. Err (record { number = bad_text; part = properties_part; position = n })) e)
-      by false l r = let e : i ≡ i + 0 = omega arith in ap (λ n. Err (record { number = bad_text; part = properties_part; position = n })) e
+      by : (b : Bool) → read_all (i + 1) (map read xs) ≡ refuse_at bad_text properties_part (position_from bad (i + 1) xs) (Ok (map f xs)) →
+          read_all i (cond b (Some (f x)) None ∷ map read xs) ≡ refuse_at bad_text properties_part (cond (not b) (Some i) (position_from bad (i + 1) xs)) (Ok (f x ∷ map f xs))
+      by true r = rw (sym (add-one i)) (rw r (read_more x (position_from bad (i + 1) xs) (map f xs)))
+      by false r = refl
+
+  -- it is refused at the first bad one
+  pub read_as : (xs : List A) (r : Option ℕ) → r ≡ position bad xs → read_all 0 (map read xs) ≡ refuse_at bad_text properties_part r (Ok (map f xs))
+  read_as xs r e = read_from 0 xs ∙ ap (λ o. refuse_at bad_text properties_part o (Ok (map f xs))) (sym (e ∙ position_from-zero bad xs))
 
   -- what was read is all of the list
   pub read_ok : (xs : List A) (ys : List B) → read_all 0 (map read xs) ≡ Ok ys → ys ≡ map f xs
-  read_ok xs ys e =
-      elim (cases_lt (front xs) (length xs)) [
-        | inl l ↦ (let b = read_bad 0 xs l in let z : ◌≡◌ {A = ℕ} 0 1 = cc in absurd (omega arith))
-        | inr l ↦ (let b = read_good 0 xs l in (cc))
-      ]
+  read_ok xs ys e = sym (ok_is (refuse_at_ok bad_text properties_part (position bad xs) (Ok (map f xs)) ys (sym (read_as xs (position bad xs) refl) ∙ e)))
 
-module _ {A : Type 0} (f : A → Property) (xs : List A) (i : ℕ) (d : A) (in' : i < length xs) where
+module _ {A : Type 0} (f : A → Property) where
+  pub found_value : (k : Bytes) (xs : List A) → option_map (λ x. (f x).value) (find (λ x. same_bytes (f x).key k) xs) ≡ look_up k (map f xs)
+  found_value k [] = refl
+  found_value k (x ∷ xs) = let r = found_value k xs in grind arith
+
   -- the element sets a history size below 0
-  abbrev asks : Bool
-  asks = same_bytes (f (get_or xs i d)).key history_key && below_zero (signed_reading (f (get_or xs i d)).value)
+  abbrev pub asks : A → Bool
+  asks x = same_bytes (f x).key history_key && below_zero (signed_reading (f x).value)
 
-  pub size_more : asks ≡ false → negative_size i (map f (drop i xs)) ≡ negative_size (i + 1) (map f (drop (i + 1) xs))
-  size_more t =
-      at_drop_more (λ ys. negative_size i (map f ys)) xs i d in'
-      ∙ (cond-false asks (Some i) (negative_size (suc i) (map f (drop (i + 1) xs))) t ∙ ap (λ n. negative_size n (map f (drop (i + 1) xs))) (sym (add-one i)))
+  size_from : (i : ℕ) (xs : List A) → position_from asks i xs ≡ negative_size i (map f xs)
+  size_from i [] = refl
+  size_from i (x ∷ xs) = let r = size_from (suc i) xs in rw add-one (grind arith)
 
-  pub size_stop : asks ≡ true → negative_size i (map f (drop i xs)) ≡ Some i
-  size_stop t = at_drop_more (λ ys. negative_size i (map f ys)) xs i d in' ∙ cond-true asks (Some i) (negative_size (suc i) (map f (drop (i + 1) xs))) t
-
-  pub look_more : (k : Bytes) → same_bytes (f (get_or xs i d)).key k ≡ false → look_up k (map f (drop i xs)) ≡ look_up k (map f (drop (i + 1) xs))
-  look_more k t =
-      at_drop_more (λ ys. look_up k (map f ys)) xs i d in'
-      ∙ cond-false (same_bytes (f (get_or xs i d)).key k) (Some (f (get_or xs i d)).value) (look_up k (map f (drop (i + 1) xs))) t
-
-  pub look_here : (k : Bytes) → same_bytes (f (get_or xs i d)).key k ≡ true → look_up k (map f (drop i xs)) ≡ Some (f (get_or xs i d)).value
-  look_here k t =
-      at_drop_more (λ ys. look_up k (map f ys)) xs i d in'
-      ∙ cond-true (same_bytes (f (get_or xs i d)).key k) (Some (f (get_or xs i d)).value) (look_up k (map f (drop (i + 1) xs))) t
-
-pub size_all : {A : Type 0} (f : A → Property) (xs : List A) (i : ℕ) → length xs ≤ i → negative_size i (map f (drop i xs)) ≡ None
-size_all f xs i h = at_drop_all (λ ys. negative_size i (map f ys)) xs i h
-
-pub look_all : {A : Type 0} (f : A → Property) (k : Bytes) (xs : List A) (i : ℕ) → length xs ≤ i → look_up k (map f (drop i xs)) ≡ None
-look_all f k xs i h = at_drop_all (λ ys. look_up k (map f ys)) xs i h
+  pub size_found : (xs : List A) → position asks xs ≡ negative_size 0 (map f xs)
+  size_found xs = position_from-zero asks xs ∙ size_from 0 xs

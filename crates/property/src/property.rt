@@ -1,7 +1,8 @@
-ghost use Rattle.std.specs.Prelude.{◌≡◌, ◌+◌, ◌<◌, ◌≤◌, true, not, ◌&&◌, ◌++◌, map, length, take, drop, is_ok, is_err, None, Ok};
-ghost use Rattle.std.specs.List.{prefix_len, insert};
+ghost use Rattle.std.specs.Prelude.{Some, ◌≡◌, ◌+◌, ◌<◌, ◌≤◌, true, not, ◌&&◌, ◌++◌, map, length, take, drop, is_ok, is_err, None, Ok, Err};
+ghost use Rattle.std.specs.List.{prefix_len, position, insert, list_any, count_by};
+ghost use Rattle.std.specs.Option.{MatchOption, option_map, is_none};
 ghost use Rattle.model.specs.Bytes.{same_bytes, same_list, before};
-ghost use Rattle.model.specs.Version.{same_property};
+ghost use Rattle.model.specs.Version.{same_property, same_text};
 ghost use Rattle.model.specs.Refusals.{bad_text, properties_part, refuse_at};
 ghost use Rattle.model.specs.Numbers.{signed_reading, below_zero};
 ghost use Rattle.model.specs.Settings.{history_key, drop_key};
@@ -13,9 +14,7 @@ ghost use Rattle.property.specs.Meaning.{found_at, properties_of, room_of, Keeps
 ghost use Rattle.property.specs.Outcomes.{answered, after_updates, planned, FirstTests};
 
 use setting::number::signed_reading;
-use setting::settings::{
-    DEFAULT_HISTORY_SIZE, effective_size, is_drop_key, is_history_key, is_truthy,
-};
+use setting::settings::{DROP_KEY, HISTORY_KEY, effective_size, is_history_key, is_truthy};
 use text::bytes::{before, same_bytes};
 use text::property::{Property, out_of_order};
 
@@ -45,65 +44,71 @@ pub struct PropertyFault {
     pub position: usize,
 }
 
+// More updates than one call may bring, or more properties than there is room for.
+const TOO_MANY: PropertyFault = PropertyFault {
+    refusal: PropertyRefusal::TooMany,
+    position: 0,
+};
+
 // The place of the first property with the key.
 fn find(items: &[Property], key: &[u8], block: &[u8]) -> Option<usize>
-    ensures { result ≡ found_at (prefix_len (λ q. not (same_bytes key.now (bytes_of block.now q.key))) items.now) (length items.now) }
+    ensures { result ≡ position (λ q. same_bytes key.now (bytes_of block.now q.key)) items.now }
 {
-    for (i, q) in items.iter().enumerate() {
-        if same_bytes(key, q.key.bytes(block)) {
-            return Some(i);
-        }
-    }
-    None
+    items
+        .iter()
+        .position(|q| same_bytes(key, q.key.bytes(block)))
 }
 
 // The place of the first property whose key comes after this one; their count where there is none.
 fn place(items: &[Property], key: &[u8], block: &[u8]) -> usize
     ensures { result ≡ prefix_len (λ q. not (before key.now (bytes_of block.now q.key))) items.now }
 {
-    for (i, q) in items.iter().enumerate() {
-        if before(key, q.key.bytes(block)) {
-            return i;
-        }
-    }
-    items.len()
+    items
+        .iter()
+        .take_while(|q| !before(key, q.key.bytes(block)))
+        .count()
+}
+
+// The value of the first property with the key.
+fn look_up<'t>(items: &[Property], key: &[u8], block: &'t [u8]) -> Option<&'t [u8]>
+    ensures { option_map (λ v. v.now) result ≡ look_up key.now (map (property_of block.now) items.now) }
+{
+    items
+        .iter()
+        .find(|q| same_bytes(q.key.bytes(block), key))
+        .map(|q| q.value.bytes(block))
 }
 
 // It sets the history size to a number below 0.
 fn is_negative_size(property: &Property, block: &[u8]) -> bool
     ensures { result ≡ (same_bytes (bytes_of block.now property.now.key) history_key && below_zero (signed_reading (bytes_of block.now property.now.value))) }
 {
-    if !is_history_key(property.key.bytes(block)) {
-        return false;
-    }
-    match signed_reading(property.value.bytes(block)) {
-        Some(n) => n < 0,
-        None => false,
-    }
+    is_history_key(property.key.bytes(block))
+        && signed_reading(property.value.bytes(block)).is_some_and(|n| n < 0)
 }
 
 // The position of the first property with a bad text.
 fn bad_text(updates: &[Property], block: &[u8]) -> Option<usize>
     ensures { read_all 0 (map (property_in block.now) updates.now) ≡ refuse_at bad_text properties_part result (Ok (map (property_of block.now) updates.now)) }
 {
-    for (i, p) in updates.iter().enumerate() {
-        if p.check(block).is_err() {
-            return Some(i);
-        }
-    }
-    None
+    updates.iter().position(|p| p.check(block).is_err())
 }
 
 // The position of a history size below 0.
 fn negative_size(updates: &[Property], block: &[u8]) -> Option<usize>
     ensures { result ≡ negative_size 0 (map (property_of block.now) updates.now) }
 {
-    for (i, p) in updates.iter().enumerate() {
-        if is_negative_size(p, block) {
-            return Some(i);
-        }
+    updates.iter().position(|p| is_negative_size(p, block))
+}
+
+// Refuses what was found at a position, if anything was.
+fn refuse_at(refusal: PropertyRefusal, found: Option<usize>) -> Result<(), PropertyFault>
+    ensures { MatchOption found (is_ok result ≡ true) (λ position. result ≡ Err (record { refusal = refusal; position = position })) }
+{
+    match found {
+        Some(position) => Err(PropertyFault { refusal, position }),
+        None => Ok(()),
     }
-    None
 }
 
 // The tests that need no table: the number of the updates, then their texts, then their order, then the history size.
@@ -112,54 +117,31 @@ fn check(updates: &[Property], block: &[u8]) -> Result<(), PropertyFault>
     ensures { FirstTests block.now updates.now result }
 {
     if updates.len() > MAX_UPDATES {
-        return Err(PropertyFault {
-            refusal: PropertyRefusal::TooMany,
-            position: 0,
-        });
+        return Err(TOO_MANY);
     }
-    if let Some(position) = bad_text(updates, block) {
-        return Err(PropertyFault {
-            refusal: PropertyRefusal::BadText,
-            position,
-        });
-    }
-    if let Some(position) = out_of_order(updates, block) {
-        return Err(PropertyFault {
-            refusal: PropertyRefusal::Malformed,
-            position,
-        });
-    }
-    if let Some(position) = negative_size(updates, block) {
-        return Err(PropertyFault {
-            refusal: PropertyRefusal::NegativeHistorySize,
-            position,
-        });
-    }
-    Ok(())
+    refuse_at(PropertyRefusal::BadText, bad_text(updates, block))?;
+    refuse_at(PropertyRefusal::Malformed, out_of_order(updates, block))?;
+    refuse_at(
+        PropertyRefusal::NegativeHistorySize,
+        negative_size(updates, block),
+    )
 }
 
-// How many of the updates bring a new key, and whether one changes a property.
-fn effect(items: &[Property], updates: &[Property], block: &[u8]) -> (usize, bool)
-    requires { out_of_order (map (property_of block.now) updates.now) ≡ None }
-    ensures added { length items.now + result.0 ≡ length (put_properties (map (property_of block.now) updates.now) (map (property_of block.now) items.now)) }
-    ensures changed { result.1 ≡ not (same_list same_property (put_properties (map (property_of block.now) updates.now) (map (property_of block.now) items.now)) (map (property_of block.now) items.now)) }
+// How many of the updates bring a new key.
+fn new_keys(items: &[Property], updates: &[Property], block: &[u8]) -> usize
+    ensures { result ≡ count_by (λ p. is_none (look_up (bytes_of block.now p.key) (map (property_of block.now) items.now))) updates.now }
 {
-    let mut added = 0;
-    let mut changed = false;
-    for p in updates {
-        match find(items, p.key.bytes(block), block) {
-            Some(i) => {
-                if !same_bytes(items[i].value.bytes(block), p.value.bytes(block)) {
-                    changed = true;
-                }
-            }
-            None => {
-                added += 1;
-                changed = true;
-            }
-        }
-    }
-    (added, changed)
+    updates
+        .iter()
+        .filter(|p| look_up(items, p.key.bytes(block), block).is_none())
+        .count()
+}
+
+// Whether one of the updates brings a value other than the one that its key has.
+fn changes(items: &[Property], updates: &[Property], block: &[u8]) -> bool
+    ensures { result ≡ list_any (λ p. not (same_text (look_up (bytes_of block.now p.key) (map (property_of block.now) items.now)) (Some (bytes_of block.now p.value)))) updates.now }
+{
+    updates.iter().any(|p| look_up(items, p.key.bytes(block), block) != Some(p.value.bytes(block)))
 }
 
 impl<'a> Properties<'a> {
@@ -220,14 +202,10 @@ impl<'a> Properties<'a> {
     {
         check(updates, block)?;
         let items = self.items();
-        let (added, changes) = effect(items, updates, block);
-        if added > self.records.len() - items.len() {
-            return Err(PropertyFault {
-                refusal: PropertyRefusal::TooMany,
-                position: 0,
-            });
+        if new_keys(items, updates, block) > self.records.len() - items.len() {
+            return Err(TOO_MANY);
         }
-        Ok(changes)
+        Ok(changes(items, updates, block))
     }
 
     // Sets the properties, one after another; a refusal writes nothing.
@@ -244,28 +222,17 @@ impl<'a> Properties<'a> {
     }
 
     // The effective history size.
+    #[tactic(auto, unfolding(model::specs::Build::history_size))]
     pub fn history_size(&self, block: &[u8]) -> u64
         ensures { result ≡ history_size (properties_of block.now self.now) }
     {
-        let items = self.items();
-        for p in items {
-            if is_history_key(p.key.bytes(block)) {
-                return effective_size(Some(p.value.bytes(block)));
-            }
-        }
-        DEFAULT_HISTORY_SIZE
+        effective_size(look_up(self.items(), HISTORY_KEY, block))
     }
 
     // Dialects may be lost.
     pub fn drop_allowed(&self, block: &[u8]) -> bool
         ensures { result ≡ drop_allowed (look_up drop_key (properties_of block.now self.now)) }
     {
-        let items = self.items();
-        for p in items {
-            if is_drop_key(p.key.bytes(block)) {
-                return is_truthy(p.value.bytes(block));
-            }
-        }
-        false
+        look_up(self.items(), DROP_KEY, block).is_some_and(is_truthy)
     }
 }

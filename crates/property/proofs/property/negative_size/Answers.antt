@@ -1,15 +1,11 @@
-use Rattle.std.proofs.Common.{sym, ◌∙◌}
+use Rattle.std.proofs.Common.{◌∙◌, rules, tests}
+use Rattle.std.proofs.lemmas.Iterator.{YieldsList-from_slice}
+use Rattle.std.proofs.lemmas.Iterator.Search.{position_from_yields_List}
 use Rattle.text.specs.Properties.{property_of}
-use Rattle.property.proofs.Tested.{size_more, size_stop, size_all}
+use Rattle.property.proofs.Tested.{asks, size_found}
 use Rattle.property.proofs.property.negative_size.Goals as goal
 
-pub loop-i-preserved : goal.loop-i-preserved
-loop-i-preserved c =
-    sym (size_more (property_of c.args.block.now) c.args.updates.now c.loop-i.i _ c.loop-i-test.true (sym c.is_negative_size.ensures ∙ c.if-is_negative_size.false)) ∙ c.loop-i.invariant
-
-pub returns-then-is_negative_size : goal.returns-then-is_negative_size
-returns-then-is_negative_size c =
-    sym (size_stop (property_of c.args.block.now) c.args.updates.now c.loop-i.i _ c.loop-i-test.true (sym c.is_negative_size.ensures ∙ c.if-is_negative_size.true)) ∙ c.loop-i.invariant
-
 pub returns : goal.returns
-returns c = sym (size_all (property_of c.args.block.now) c.args.updates.now c.loop-i.i c.loop-i-test.false) ∙ c.loop-i.invariant
+returns c =
+    let f = property_of c.args.block.now in
+    position_from_yields_List (asks f) _ _ _ c.position.ensures.ran (YieldsList-from_slice c.args.updates.now cc) (λ x b q k. search (rules, tests)) ∙ size_found f c.args.updates.now

@@ -12,12 +12,11 @@ returns-in_err-check c =
     broken c.args.block.now c.args.updates.now c.args.self.now (λ b. b) (planned c.args.block.now c.args.updates.now c.args.self.now) _ c.from_residual.result
     (plan_refused c.args.block.now c.args.updates.now c.args.self.now c.in_err-check.was c.check.ensures) c.from_residual.ensures.1
 
-pub returns-then-added-self : goal.returns-then-added-self
-returns-then-added-self c =
-    plan_full c.args.block.now c.args.updates.now c.args.self.now c.items-items.result.now c.effect-added.result.0 c.items-items.ensures c.in_ok-check.ensures.1 c.effect-added.ensures.added
-    c.if-added-self.true
+pub returns-then-new_keys-self : goal.returns-then-new_keys-self
+returns-then-new_keys-self c =
+    plan_full c.args.block.now c.args.updates.now c.args.self.now c.items-items.result.now c.new_keys.result c.items-items.ensures c.in_ok-check.ensures c.new_keys.ensures c.if-new_keys-self.true
 
 pub returns : goal.returns
 returns c =
-    plan_fits c.args.block.now c.args.updates.now c.args.self.now c.items-items.result.now c.effect-added.result.0 c.items-items.ensures c.in_ok-check.ensures.1 c.effect-added.ensures.added
-    c.effect-added.result.1 c.if-added-self.false c.effect-added.ensures.changed
+    plan_fits c.args.block.now c.args.updates.now c.args.self.now c.items-items.result.now c.new_keys.result c.items-items.ensures c.in_ok-check.ensures c.new_keys.ensures
+    c.changes.result c.if-new_keys-self.false c.changes.ensures

@@ -1,5 +1,5 @@
-use Rattle.std.proofs.Common.{not, map, Ok, sym, refl, ap, ◌∙◌, arith}
-use Rattle.std.proofs.lemmas.List.{take_all}
+use Rattle.std.proofs.Common.{not, map, drop, ◌+◌, Ok, sym, refl, ap, ◌∙◌, arith}
+use Rattle.std.proofs.lemmas.List.{at_drop_all}
 use Rattle.std.proofs.lemmas.Bool.{false≢true}
 use Rattle.model.specs.Bytes.{same_list}
 use Rattle.model.specs.Version.{same_property}
@@ -8,7 +8,7 @@ use Rattle.text.specs.Properties.{property_of}
 use Rattle.property.specs.Meaning.{properties_of, room_of}
 use Rattle.property.specs.Outcomes.{after_updates}
 use Rattle.property.proofs.Decided.{broken, accepted, then_err}
-use Rattle.property.proofs.Effects.{put_next, put_has_room}
+use Rattle.property.proofs.Effects.{next_put, next_fits}
 use Rattle.property.proofs.Rests.{keeps_itself, keeps_on}
 use Rattle.property.proofs.property.Properties.set.Goals as goal
 
@@ -24,30 +24,31 @@ returns-in_err-plan c =
     }
 
 pub loop-p-init : goal.loop-p-init
-loop-p-init c = (refl, keeps_itself c.args.self.now)
+loop-p-init c = record { left = refl; rest = keeps_itself c.args.self.now }
 
 pub put-requires : goal.put-requires
 put-requires c =
     let ok = accepted c.args.block.now c.args.updates.now c.args.self.now c.in_ok-plan.ensures in
-    put_has_room (property_of c.args.block.now) c.args.updates.now (properties_of c.args.block.now c.args.self.now) c.loop-p.p-index _ c.loop-p-test.true
-    (properties_of c.args.block.now c.loop-p.self) (room_of c.loop-p.self) c.loop-p.invariant.0 (omega (arith, ok.1, c.loop-p.invariant.1.room))
+    next_fits (property_of c.args.block.now) c.args.updates.now c.loop-p.p-index _ (properties_of c.args.block.now c.loop-p.self) _ (room_of c.loop-p.self) c.loop-p-test.true
+    c.loop-p.invariant.left (omega (arith, ok.1, c.loop-p.invariant.rest.room))
 
 pub loop-p-preserved : goal.loop-p-preserved
-loop-p-preserved c = (
-  c.put.ensures.held
-      ∙ put_next (property_of c.args.block.now) c.args.updates.now (properties_of c.args.block.now c.args.self.now) c.loop-p.p-index _ c.loop-p-test.true
-      (properties_of c.args.block.now c.loop-p.self) c.loop-p.invariant.0,
-  keeps_on c.args.self.now c.loop-p.self c.put.new.self c.loop-p.invariant.1 c.put.ensures.rest,
-)
+loop-p-preserved c =
+    let f = property_of c.args.block.now in
+    record {
+      left =
+          ap (put_properties (map f (drop (c.loop-p.p-index + 1) c.args.updates.now))) c.put.ensures.held
+          ∙ (next_put f c.args.updates.now c.loop-p.p-index _ (properties_of c.args.block.now c.loop-p.self) c.loop-p-test.true ∙ c.loop-p.invariant.left);
+      rest = keeps_on c.args.self.now c.loop-p.self c.put.new.self c.loop-p.invariant.rest c.put.ensures.rest;
+    }
 
 pub returns : goal.returns
 returns c =
+    let f = property_of c.args.block.now in
     let ok = accepted c.args.block.now c.args.updates.now c.args.self.now c.in_ok-plan.ensures in
+    let all = at_drop_all (λ xs. put_properties (map f xs) (properties_of c.args.block.now c.loop-p.self)) c.args.updates.now c.loop-p.p-index c.loop-p-test.false in
     record {
-      answer =
-          ap Ok (c.loop-p.invariant.0
-          ∙ ap (λ xs. put_properties (map (property_of c.args.block.now) xs) (properties_of c.args.block.now c.args.self.now)) (take_all c.loop-p.p-index c.args.updates.now c.loop-p-test.false))
-          ∙ sym ok.0;
+      answer = ap Ok (sym all ∙ c.loop-p.invariant.left) ∙ sym ok.0;
       refused = λ e. absurd (false≢true e);
-      rest = c.loop-p.invariant.1;
+      rest = c.loop-p.invariant.rest;
     }
