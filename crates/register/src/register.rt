@@ -1,11 +1,11 @@
-ghost use Rattle.std.specs.Prelude.{◌≡◌, not, map, if◌then◌else◌, Some, None};
+ghost use Rattle.std.specs.Prelude.{◌≡◌, not, is_ok, map, if◌then◌else◌, Some, None};
 ghost use Rattle.model.specs.Ids.{find, holds, highest, is_id, highest_id, after};
 ghost use Rattle.register.specs.Tables.{held_in, is_full};
 ghost use Rattle.register.specs.Registers.{same_id, new_id, pushed, entered};
 
 use super::fault::RegisterFault;
 use super::numbered::{Identified, Numbered};
-use super::table::Table;
+use super::table::{Table, TableFull};
 
 // The numbered things of one kind.
 #[derive(Drop)]
@@ -72,9 +72,9 @@ impl<'a, T: Numbered> Register<'a, T> {
         Ok(id)
     }
 
-    // Puts the thing into the first free slot as it is; says no where there is none.
-    pub fn push(&mut self, thing: T) -> bool
-        ensures answer { result ≡ not (is_full self.old.table) }
+    // Puts the thing into the first free slot as it is, if there is one.
+    pub fn push(&mut self, thing: T) -> Result<(), TableFull>
+        ensures answer { is_ok result ≡ not (is_full self.old.table) }
         ensures register { self.new ≡ pushed thing self.old }
     {
         self.table.push(thing)
