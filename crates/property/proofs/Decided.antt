@@ -1,5 +1,5 @@
 -- The tests of the updates one after another, and what a plan then answers. Assumes nothing.
-use Rattle.std.proofs.Common.{◌≡◌, ℕ, ◌+◌, ◌-◌, ◌<◌, ◌≤◌, Bool, true, false, not, ◌&&◌, List, map, length, take, IsErrAnd, Some, None, Ok, Err, Option, Result, sym, refl, ap, ◌∙◌, subst, inl, inr, ◌⊎◌, is_ok, arith}
+use Rattle.std.proofs.Common.{◌≡◌, ℕ, ◌+◌, ◌-◌, ◌<◌, ◌≤◌, Bool, true, false, not, ◌&&◌, List, map, length, IsErrAnd, Some, None, Ok, Err, Option, Result, sym, refl, ap, ◌∙◌, subst, inl, inr, ◌⊎◌, is_ok, arith}
 use Rattle.std.proofs.lemmas.List.{length-map, length-take}
 use Rattle.std.specs.List.{count_by, list_any}
 use Rattle.std.specs.Option.{MatchOption}
@@ -12,6 +12,7 @@ use Rattle.model.specs.Edits.{read_all, out_of_order, negative_size, put_propert
 use Rattle.model.proofs.Basics.{refuse_ok, refuse_at_ok, ok_is, ok_not_err}
 use Rattle.text.specs.Meaning.{sound}
 use Rattle.text.specs.declared.property.Property.{Property}
+use Rattle.register.specs.Tables.{held_in}
 use Rattle.property.specs.declared.property.Properties.{Properties}
 use Rattle.property.specs.declared.property.PropertyRefusal.{PropertyRefusal}
 use Rattle.property.specs.declared.property.PropertyRefusal.TheVariants.{BadText, Malformed, NegativeHistorySize}
@@ -116,7 +117,7 @@ module _ (block : Bytes) (updates : List Property) (t : Properties) where
       let k : FirstTests block updates (Err f) = subst (FirstTests block updates) e h in sym (ap (λ q. then q whether) (k (room_of t) (properties_of block t)))
 
   -- so many new keys, once the first tests passed
-  module _ (items : List Property) (added : ℕ) (all : items ≡ take t.held t.records.now) (tests : FirstTests block updates (Ok tt))
+  module _ (items : List Property) (added : ℕ) (all : items ≡ held_in t.table) (tests : FirstTests block updates (Ok tt))
       (count : added ≡ count_by (is_new (property_of block) (map (property_of block) items)) updates) where
     held_are : map (property_of block) items ≡ properties_of block t
     held_are = ap (map (property_of block)) all
@@ -135,7 +136,7 @@ module _ (block : Bytes) (updates : List Property) (t : Properties) where
     pub plan_fits : (b : Bool) → added ≤ room_of t - length items → b ≡ list_any (differs (property_of block) (map (property_of block) items)) updates → Ok b ≡ planned block updates t
     plan_fits b h e =
         ap Ok (e ∙ (changed (property_of block) updates (map (property_of block) items) (distinct _ tests.0) ∙ ap (λ ps. not (same_list model.same_property (put_properties (map (property_of block) updates) ps) ps)) held_are))
-        ∙ planned_as (Ok new) (rw (le-ltb (room_of t) (length new) (omega (arith, h, grown, ap length all, length-take t.held t.records.now))))
+        ∙ planned_as (Ok new) (rw (le-ltb (room_of t) (length new) (omega (arith, h, grown, ap length all, length-take t.table.held t.table.slots.now))))
 
   -- a plan that was accepted: the list with the updates put has room
   pub accepted : {b : Bool} → Ok b ≡ planned block updates t → (after_updates block updates t ≡ Ok new) × (length new ≤ room_of t)

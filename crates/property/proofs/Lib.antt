@@ -3,7 +3,5 @@ pub mod Puts
 pub mod Places
 pub mod Tested
 pub mod Effects
-pub mod Moves
-pub mod Stored
 pub mod Rests
 pub mod Decided

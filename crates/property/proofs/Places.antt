@@ -1,96 +1,77 @@
--- Where a loop finds a key, or the place of a new one, in a list whose elements mean properties. Assumes nothing.
-use Rattle.std.proofs.Common.{◌≡◌, ℕ, suc, ◌+◌, ◌<◌, ◌≤◌, Bool, true, false, cond, not, ltb, List, [], ◌∷◌, map, length, get_or, drop, set, Some, None, sym, refl, ap, ◌∙◌, one-add, arith}
-use Rattle.std.specs.List.{prefix_len, insert}
-use Rattle.std.proofs.lemmas.List.Sums.{prefix_len-drop_yes, prefix_len-drop_no, prefix_len-drop_all}
-use Rattle.std.proofs.lemmas.Bool.{not_from_true, not_from_false, lt-ltb, le-ltb, ltb-true, ltb-false}
+-- A property put where its key is found, or where it belongs, in a list whose elements mean properties. Assumes nothing.
+use Rattle.std.proofs.Common.{◌≡◌, ℕ, suc, ◌+◌, ◌<◌, ◌≤◌, Bool, true, false, cond, not, List, [], ◌∷◌, map, length, get_or, take, set, is_some, Some, None, Option, sym, refl, ap, ◌∙◌, one-add, arith}
+use Rattle.std.specs.List.{prefix_len, position, position_from, insert}
+use lib.Seq.{take-set-lt}
+use Rattle.std.proofs.lemmas.Bool.Decides.{nat_tests}
+use Rattle.std.proofs.lemmas.List.{length-take, length-map, get_or-take}
+use Rattle.std.proofs.lemmas.Iterator.Adapters.{position_from-zero}
+use Rattle.std.proofs.lemmas.List.Quantifiers.{position-Some}
 use Rattle.model.specs.Bytes.{Bytes, same_bytes, before}
 use Rattle.model.specs.Version.{Property}
-use Rattle.model.specs.Edits.{revalued, placed}
-use Rattle.model.specs.Build.{look_up}
-use Rattle.property.specs.Meaning.{found_at}
-use Rattle.property.proofs.Keys.{same_sym}
+use Rattle.model.specs.Edits.{has_key, revalued, placed, put_property}
+use Rattle.register.specs.declared.table.Table.{Table}
+use Rattle.register.specs.Tables.{held_in, room, is_full, with_inserted, after_insert}
+use Rattle.register.proofs.Moves.{held_inserted}
+use Rattle.property.proofs.Puts.{length_put}
 
--- a loop that looks for the first element that passes a test
-module _ {A : Type 0} (test : A → Bool) (xs : List A) (i : ℕ) (d : A) where
-  pub passed_over : i < length xs → test (get_or xs i d) ≡ false → prefix_len (λ x. not (test x)) xs ≡ i + prefix_len (λ x. not (test x)) (drop i xs) → prefix_len (λ x. not (test x)) xs ≡ (i + 1) + prefix_len (λ x. not (test x)) (drop (i + 1) xs)
-  passed_over h t e = omega (arith, e, prefix_len-drop_yes (λ x. not (test x)) xs i d h (not_from_false (test (get_or xs i d)) t))
+module _ {A : Type 0} (f : A → Property) where
+  -- the element has the key
+  abbrev has : Bytes → A → Bool
+  has k x = same_bytes k (f x).key
 
-  pub stopped_at : i < length xs → test (get_or xs i d) ≡ true → prefix_len (λ x. not (test x)) xs ≡ i + prefix_len (λ x. not (test x)) (drop i xs) → i ≡ prefix_len (λ x. not (test x)) xs
-  stopped_at h t e = omega (arith, e, prefix_len-drop_no (λ x. not (test x)) xs i d h (not_from_true (test (get_or xs i d)) t))
+  has_from : (k : Bytes) (i : ℕ) (xs : List A) → has_key k (map f xs) ≡ is_some (position_from (has k) i xs)
+  has_from k i [] = refl
+  has_from k i (x ∷ xs) = let r = has_from k (i + 1) xs in grind arith
 
-pub ran_out : {A : Type 0} (test : A → Bool) (xs : List A) (i : ℕ) → length xs ≤ i → i ≤ length xs → prefix_len (λ x. not (test x)) xs ≡ i + prefix_len (λ x. not (test x)) (drop i xs) → length xs ≡ prefix_len (λ x. not (test x)) xs
-ran_out test xs i h k e = omega (arith, e, prefix_len-drop_all (λ x. not (test x)) xs i h)
+  module _ (p : Property) where
+    revalued_at : (xs : List A) (i : ℕ) (y d : A) → i < length xs → has p.key (get_or xs i d) ≡ true → ((k : ℕ) → k < i → has p.key (get_or xs k d) ≡ false) →
+        f y ≡ record { key = (f (get_or xs i d)).key; value = p.value } → map f (set xs i y) ≡ revalued p (map f xs)
+    revalued_at [] i y d l t h e = absurd (omega arith)
+    revalued_at (x ∷ xs) Prim.Native.Nat.zero y d l t h e = rw t (ap (λ q. q ∷ map f xs) e)
+    revalued_at (x ∷ xs) (suc i) y d l t h e = rw (h 0 (omega arith)) (ap (λ qs. f x ∷ qs) (revalued_at xs i y d (omega arith) t (λ k m. h (suc k) (omega arith)) e))
 
-pub found : (i n count : ℕ) → i < count → i ≡ n → Some i ≡ found_at n count
-found i n count h e = rw (lt-ltb n count (omega arith)) (ap Some e)
+    -- how many come before the first whose key comes after its key
+    abbrev lower : List A → ℕ
+    lower = prefix_len (λ x. not (before p.key (f x).key))
 
-pub not_found : (n count : ℕ) → count ≡ n → None ≡ found_at n count
-not_found n count e = rw (le-ltb n count (omega arith))
+    placed_at : (xs : List A) (y : A) → f y ≡ p → map f (insert xs (lower xs) y) ≡ placed p (map f xs)
+    placed_at [] y e = ap (λ t. t ∷ []) e
+    placed_at (x ∷ xs) y e = by (before p.key (f x).key) (placed_at xs y e)
+      where
+        by : (b : Bool) → map f (insert xs (lower xs) y) ≡ placed p (map f xs) → map f (insert (x ∷ xs) (cond (not b) (1 + lower xs) 0) y) ≡ cond b (p ∷ f x ∷ map f xs) (f x ∷ placed p (map f xs))
+        by true r = ap (λ t. t ∷ f x ∷ map f xs) e
+        by false r = rw one-add (ap (λ t. f x ∷ t) r)
 
-pub found_some : (i n count : ℕ) → Some i ≡ found_at n count → (i ≡ n) × (n < count)
-found_some i n count = by (ltb n count) refl
-  where
-    by : (b : Bool) → ltb n count ≡ b → Some i ≡ cond b (Some n) None → (i ≡ n) × (n < count)
-    by true t e = ((cc), ltb-true n count t)
-    by false t e = let z : ◌≡◌ {A = ℕ} 0 1 = cc in absurd (omega arith)
+    -- what a search of a table by the bytes of its key found
+    module _ (k : Bytes) (same : k ≡ p.key) (t : Table A) (o : Option ℕ) (search' : o ≡ position (has k) (held_in t)) where
+      found : o ≡ position (has p.key) (held_in t)
+      found = search' ∙ ap (λ b. position (has b) (held_in t)) same
 
-pub found_none : (n count : ℕ) → None ≡ found_at n count → count ≤ n
-found_none n count = by (ltb n count) refl
-  where
-    by : (b : Bool) → ltb n count ≡ b → None ≡ cond b (Some n) None → count ≤ n
-    by true t e = let z : ◌≡◌ {A = ℕ} 0 1 = cc in absurd (omega arith)
-    by false t e = ltb-false n count t
+      is_held : has_key p.key (map f (held_in t)) ≡ is_some o
+      is_held = has_from p.key 0 (held_in t) ∙ ap is_some (sym (found ∙ position_from-zero (has p.key) (held_in t)))
 
-module _ {A : Type 0} (f : A → Property) (k : Bytes) where
-  -- how many come before the first with the key
-  abbrev pub ahead : List A → ℕ
-  ahead = prefix_len (λ x. not (same_bytes k (f x).key))
+      -- its own record is rewritten
+      pub put_over : (i : ℕ) (y d : A) → o ≡ Some i → f y ≡ record { key = (f (get_or t.slots.now i d)).key; value = p.value } → map f (take t.held (set t.slots.now i y)) ≡ put_property p (map f (held_in t))
+      put_over i y d e v =
+          let s = position-Some (has p.key) (held_in t) i d (sym found ∙ e) in
+          let inside : i < t.held = omega (arith, s.0, length-take t.held t.slots.now) in
+          ap (map f) (take-set-lt t.held t.slots.now i y inside)
+          ∙ rw (is_held ∙ ap is_some e) (revalued_at (held_in t) i y d s.0 s.1 s.2 (v ∙ ap (λ x. record { key = (f x).key; value = p.value }) (sym (get_or-take t.held t.slots.now i d inside))))
 
-  -- how many come before the first whose key comes after it
-  abbrev pub lower : List A → ℕ
-  lower = prefix_len (λ x. not (before k (f x).key))
+      module _ (none : o ≡ None) where
+        new_key : has_key p.key (map f (held_in t)) ≡ false
+        new_key = is_held ∙ ap is_some none
 
-  pub look_up_at : (xs : List A) (d : A) → ahead xs < length xs → look_up k (map f xs) ≡ Some (f (get_or xs (ahead xs) d)).value
-  look_up_at [] d h = absurd (omega arith)
-  look_up_at (x ∷ xs) d h = by (same_bytes k (f x).key) (same_sym (f x).key k) h (look_up_at xs d)
-    where
-      by : (b : Bool) → same_bytes (f x).key k ≡ b → cond (not b) (1 + ahead xs) 0 < suc (length xs) → (ahead xs < length xs → look_up k (map f xs) ≡ Some (f (get_or xs (ahead xs) d)).value) →
-          look_up k (map f (x ∷ xs)) ≡ Some (f (get_or (x ∷ xs) (cond (not b) (1 + ahead xs) 0) d)).value
-      by true e l r = rw e
-      by false e l r = rw (e, one-add) (r (omega arith))
+        -- there is a free slot, since the list with one more has room
+        pub has_slot : length (put_property p (map f (held_in t))) ≤ room t → is_full t ≡ false
+        has_slot h =
+            let n : length (put_property p (map f (held_in t))) ≡ length (held_in t) + 1 = length_put p (map f (held_in t)) ∙ rw new_key (ap (λ n. n + 1) (length-map (held_in t) f)) in
+            let l : t.held < room t = omega (arith, n, h, length-take t.held t.slots.now) in
+            grind (arith, nat_tests)
 
-  pub look_up_past : (xs : List A) → length xs ≤ ahead xs → look_up k (map f xs) ≡ None
-  look_up_past [] h = refl
-  look_up_past (x ∷ xs) h = by (same_bytes k (f x).key) (same_sym (f x).key k) h (look_up_past xs)
-    where
-      by : (b : Bool) → same_bytes (f x).key k ≡ b → suc (length xs) ≤ cond (not b) (1 + ahead xs) 0 → (length xs ≤ ahead xs → look_up k (map f xs) ≡ None) → look_up k (map f (x ∷ xs)) ≡ None
-      by true e l r = absurd (omega arith)
-      by false e l r = rw e (r (omega arith))
-
-  -- what is found by equal bytes
-  pub look_up_found : (k' : Bytes) (xs : List A) (i : ℕ) (d : A) → k' ≡ k → Some i ≡ found_at (prefix_len (λ x. not (same_bytes k' (f x).key)) xs) (length xs) → look_up k (map f xs) ≡ Some (f (get_or xs i d)).value
-  look_up_found k' xs i d e r =
-      let s : (i ≡ ahead xs) × (ahead xs < length xs) = found_some i (ahead xs) (length xs) (r ∙ ap (λ b. found_at (prefix_len (λ x. not (same_bytes b (f x).key)) xs) (length xs)) e) in
-      look_up_at xs d s.1 ∙ ap (λ n. Some (f (get_or xs n d)).value) (sym s.0)
-
-  pub look_up_missed : (k' : Bytes) (xs : List A) → k' ≡ k → None ≡ found_at (prefix_len (λ x. not (same_bytes k' (f x).key)) xs) (length xs) → look_up k (map f xs) ≡ None
-  look_up_missed k' xs e r = look_up_past xs (found_none (ahead xs) (length xs) (r ∙ ap (λ b. found_at (prefix_len (λ x. not (same_bytes b (f x).key)) xs) (length xs)) e))
-
-module _ {A : Type 0} (f : A → Property) (p : Property) where
-  pub revalued_at : (xs : List A) (y d : A) → ahead f p.key xs < length xs → f y ≡ record { key = (f (get_or xs (ahead f p.key xs) d)).key; value = p.value } → revalued p (map f xs) ≡ map f (set xs (ahead f p.key xs) y)
-  revalued_at [] y d h e = refl
-  revalued_at (x ∷ xs) y d h e = by (same_bytes p.key (f x).key) h e (revalued_at xs y d)
-    where
-      by : (b : Bool) → cond (not b) (1 + ahead f p.key xs) 0 < suc (length xs) → f y ≡ record { key = (f (get_or (x ∷ xs) (cond (not b) (1 + ahead f p.key xs) 0) d)).key; value = p.value } →
-          (ahead f p.key xs < length xs → f y ≡ record { key = (f (get_or xs (ahead f p.key xs) d)).key; value = p.value } → revalued p (map f xs) ≡ map f (set xs (ahead f p.key xs) y)) →
-          cond b (record { key = (f x).key; value = p.value } ∷ map f xs) (f x ∷ revalued p (map f xs)) ≡ map f (set (x ∷ xs) (cond (not b) (1 + ahead f p.key xs) 0) y)
-      by true l m r = ap (λ t. t ∷ map f xs) (sym m)
-      by false l m r = rw one-add (ap (λ t. f x ∷ t) (r (omega arith) (rw one-add at m)))
-
-  pub placed_at : (xs : List A) (y : A) → f y ≡ p → placed p (map f xs) ≡ map f (insert xs (lower f p.key xs) y)
-  placed_at [] y e = ap (λ t. t ∷ []) (sym e)
-  placed_at (x ∷ xs) y e = by (before p.key (f x).key) (placed_at xs y e)
-    where
-      by : (b : Bool) → placed p (map f xs) ≡ map f (insert xs (lower f p.key xs) y) → cond b (p ∷ f x ∷ map f xs) (f x ∷ placed p (map f xs)) ≡ map f (insert (x ∷ xs) (cond (not b) (1 + lower f p.key xs) 0) y)
-      by true r = ap (λ t. t ∷ f x ∷ map f xs) (sym e)
-      by false r = rw one-add (ap (λ t. f x ∷ t) r)
+        -- it gets a new record in its place
+        pub put_between : (u : Table A) (at : ℕ) (y : A) → is_full t ≡ false → at ≡ prefix_len (λ x. not (before k (f x).key)) (held_in t) → f y ≡ p → u ≡ after_insert at y t → map f (held_in u) ≡ put_property p (map f (held_in t))
+        put_between u at y free l v e =
+            let w : u ≡ with_inserted at y t = e ∙ rw free in
+            ap (λ (d : Table A). map f (held_in d)) w
+            ∙ (ap (map f) (held_inserted t at y free) ∙ (ap (λ n. map f (insert (held_in t) n y)) (l ∙ ap (λ b. prefix_len (λ x. not (before b (f x).key)) (held_in t)) same) ∙ (placed_at (held_in t) y v ∙ rw new_key)))

@@ -1,5 +1,5 @@
 ghost use Rattle.std.specs.Prelude.{Some, ◌≡◌, ◌+◌, ◌<◌, ◌≤◌, true, not, ◌&&◌, ◌++◌, map, length, take, drop, is_ok, is_err, None, Ok, Err};
-ghost use Rattle.std.specs.List.{prefix_len, position, insert, list_any, count_by};
+ghost use Rattle.std.specs.List.{prefix_len, position, list_any, count_by};
 ghost use Rattle.std.specs.Option.{MatchOption, option_map, is_none};
 ghost use Rattle.model.specs.Bytes.{same_bytes, same_list, before};
 ghost use Rattle.model.specs.Version.{same_property, same_text};
@@ -10,9 +10,11 @@ ghost use Rattle.model.specs.Edits.{read_all, out_of_order, negative_size, put_p
 ghost use Rattle.model.specs.Build.{look_up, history_size, drop_allowed};
 ghost use Rattle.text.specs.Meaning.{bytes_of, sound};
 ghost use Rattle.text.specs.Properties.{property_of, property_in};
-ghost use Rattle.property.specs.Meaning.{found_at, properties_of, room_of, KeepsRest};
+ghost use Rattle.register.specs.Tables.{held_in};
+ghost use Rattle.property.specs.Meaning.{properties_of, room_of, KeepsRest};
 ghost use Rattle.property.specs.Outcomes.{answered, after_updates, planned, FirstTests};
 
+use register::table::Table;
 use setting::number::signed_reading;
 use setting::settings::{DROP_KEY, HISTORY_KEY, effective_size, is_history_key, is_truthy};
 use text::bytes::{before, same_bytes};
@@ -21,11 +23,10 @@ use text::property::{Property, out_of_order};
 // The most properties of one call.
 pub const MAX_UPDATES: usize = 16;
 
-// The properties of the view, ascending by key: the first records of a lent table.
+// The properties of the view, ascending by key.
 #[derive(Drop)]
 pub struct Properties<'a> {
-    pub records: &'a mut [Property],
-    pub held: usize,
+    pub table: Table<'a, Property>,
 }
 
 // Why properties are refused.
@@ -49,25 +50,6 @@ const TOO_MANY: PropertyFault = PropertyFault {
     refusal: PropertyRefusal::TooMany,
     position: 0,
 };
-
-// The place of the first property with the key.
-fn find(items: &[Property], key: &[u8], block: &[u8]) -> Option<usize>
-    ensures { result ≡ position (λ q. same_bytes key.now (bytes_of block.now q.key)) items.now }
-{
-    items
-        .iter()
-        .position(|q| same_bytes(key, q.key.bytes(block)))
-}
-
-// The place of the first property whose key comes after this one; their count where there is none.
-fn place(items: &[Property], key: &[u8], block: &[u8]) -> usize
-    ensures { result ≡ prefix_len (λ q. not (before key.now (bytes_of block.now q.key))) items.now }
-{
-    items
-        .iter()
-        .take_while(|q| !before(key, q.key.bytes(block)))
-        .count()
-}
 
 // The value of the first property with the key.
 fn look_up<'t>(items: &[Property], key: &[u8], block: &'t [u8]) -> Option<&'t [u8]>
@@ -147,34 +129,38 @@ fn changes(items: &[Property], updates: &[Property], block: &[u8]) -> bool
 impl<'a> Properties<'a> {
     // An empty table over lent memory.
     pub fn over<const N: usize>(records: &'a mut [Property; N]) -> Properties<'a>
-        ensures records { result.records.now ≡ records.old }
-        ensures held { result.held ≡ 0 }
+        ensures records { result.table.slots.now ≡ records.old }
+        ensures held { result.table.held ≡ 0 }
     {
-        Properties { records, held: 0 }
+        Properties {
+            table: Table::over(records),
+        }
     }
 
     // The properties held.
     pub fn items(&self) -> &[Property]
-        ensures { result.now ≡ take self.now.held self.now.records.now }
+        ensures { result.now ≡ held_in self.now.table }
     {
-        let records = &*self.records;
-        if self.held <= records.len() {
-            &records[0..self.held]
-        } else {
-            records
-        }
+        self.table.items()
     }
 
-    // A new property at that place; those from there on move up by one.
-    fn insert(&mut self, at: usize, property: Property)
-        requires { (at ≤ self.old.held) × (self.old.held < room_of self.old) }
-        ensures held { self.new.held ≡ self.old.held + 1 }
-        ensures records { self.new.records.now ≡ insert (take self.old.held self.old.records.now) at property ++ drop (self.old.held + 1) self.old.records.now }
+    // The place of the first property with the key.
+    fn find(&self, key: &[u8], block: &[u8]) -> Option<usize>
+        ensures { result ≡ position (λ q. same_bytes key.now (bytes_of block.now q.key)) (held_in self.now.table) }
     {
-        let held = self.held;
-        self.records[held] = property;
-        self.records[at..held + 1].rotate_right(1);
-        self.held = held + 1;
+        self.items()
+            .iter()
+            .position(|q| same_bytes(key, q.key.bytes(block)))
+    }
+
+    // The place of the first property whose key comes after this one; their count where there is none.
+    fn place(&self, key: &[u8], block: &[u8]) -> usize
+        ensures { result ≡ prefix_len (λ q. not (before key.now (bytes_of block.now q.key))) (held_in self.now.table) }
+    {
+        self.items()
+            .iter()
+            .take_while(|q| !before(key, q.key.bytes(block)))
+            .count()
     }
 
     // A property whose key is held gets the new value in its own record; any other goes where its key belongs in the order.
@@ -184,14 +170,11 @@ impl<'a> Properties<'a> {
         ensures rest { KeepsRest self.old self.new }
     {
         let key = property.key.bytes(block);
-        match find(self.items(), key, block) {
-            Some(i) => {
-                let record = &mut self.records[i];
-                record.value = property.value;
-            }
+        match self.find(key, block) {
+            Some(i) => self.table.slots[i].value = property.value,
             None => {
-                let at = place(self.items(), key, block);
-                self.insert(at, *property);
+                let at = self.place(key, block);
+                self.table.insert(at, *property).unwrap();
             }
         }
     }
@@ -202,7 +185,7 @@ impl<'a> Properties<'a> {
     {
         check(updates, block)?;
         let items = self.items();
-        if new_keys(items, updates, block) > self.records.len() - items.len() {
+        if new_keys(items, updates, block) > self.table.slots.len() - items.len() {
             return Err(TOO_MANY);
         }
         Ok(changes(items, updates, block))

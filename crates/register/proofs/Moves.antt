@@ -6,10 +6,10 @@ use borrow.Rule.Slice.PartMut.{put_mid}
 use Rattle.std.specs.List.{insert, between}
 use Rattle.std.proofs.lemmas.Bool.{cases_lt, leb-false}
 use Rattle.std.proofs.lemmas.Slice.{between_is}
-use Rattle.std.proofs.lemmas.List.{append_assoc, same_lists, length_push, length-take, length-drop, length-set, get_or-take, get_or-drop, take_at, drop_at, take_all, drop_all, take-take, take-set, take-set-le, drop-drop, drop-set-lt, get_or-set_same}
+use Rattle.std.proofs.lemmas.List.{append_assoc, length-append, same_lists, length_push, length-take, length-drop, length-set, get_or-take, get_or-drop, take_at, drop_at, take_all, drop_all, take-take, take-set, take-set-le, drop-drop, drop-set-lt, get_or-set_same}
 use Rattle.std.proofs.lemmas.List.Edits.{between_more}
 use Rattle.register.specs.declared.table.Table.{Table}
-use Rattle.register.specs.Tables.{held_in, room, is_full, with_one_more, after_push, after_insert, kept_from}
+use Rattle.register.specs.Tables.{held_in, room, is_full, with_one_more, with_inserted, after_push, after_insert, kept_from}
 
 -- what stands from b on and before e is what is kept: b is the start, or the end where the start is past it
 same_part : {X : Type 0} (xs : List X) (held start e b : ℕ) → e ≡ min held (length xs) → b ≡ min start e → take (e - b) (drop b xs) ≡ drop start (take held xs)
@@ -78,3 +78,9 @@ turned_one_more t at x free a after e r =
 
 pub inserted_is : {X : Type 0} (t u : Table X) (at : ℕ) (x : X) → is_full t ≡ false → u ≡ after_push t x → Turned t at x u
 inserted_is t u at x free e = subst (Turned t at x) (sym (e ∙ rw free)) (turned_one_more t at x free)
+
+-- what the table then holds
+pub held_inserted : {X : Type 0} (t : Table X) (at : ℕ) (x : X) → is_full t ≡ false → held_in (with_inserted at x t) ≡ insert (held_in t) at x
+held_inserted t at x free =
+    let inside : t.held < length t.slots.now = leb-false (room t) t.held free in
+    take_at (insert (held_in t) at x) (drop (t.held + 1) t.slots.now) (t.held + 1) (simp (length-append, length-take, length-drop) (omega arith))

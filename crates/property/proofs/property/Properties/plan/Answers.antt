@@ -5,7 +5,7 @@ use Rattle.property.proofs.Decided.{broken, plan_refused, plan_full, plan_fits}
 use Rattle.property.proofs.property.Properties.plan.Goals as goal
 
 pub overflow_sub-self : goal.overflow_sub-self
-overflow_sub-self c = omega (arith, ap length c.items-items.ensures, length-take c.args.self.now.held c.args.self.now.records.now)
+overflow_sub-self c = omega (arith, ap length c.items-items.ensures, length-take c.args.self.now.table.held c.args.self.now.table.slots.now)
 
 pub returns-in_err-check : goal.returns-in_err-check
 returns-in_err-check c =

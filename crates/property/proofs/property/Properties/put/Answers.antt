@@ -1,38 +1,22 @@
-use Rattle.std.proofs.Common.{map, take, refl, ap, ◌∙◌, arith}
-use Rattle.std.proofs.lemmas.List.{length-take}
+use Rattle.std.proofs.Common.{◌≡◌, false, refl, rules}
+use Rattle.register.specs.Tables.{is_full}
 use Rattle.text.specs.Properties.{property_of}
-use Rattle.property.proofs.Stored.{found_inside, stored_old, free, place_inside, stored_new}
-use Rattle.property.proofs.Rests.{keeps_old, keeps_new}
+use Rattle.property.proofs.Places.{put_over, has_slot, put_between}
 use Rattle.property.proofs.property.Properties.put.Goals as goal
 
-pub bounds-self-i : goal.bounds-self-i
-bounds-self-i c =
-    let i = found_inside (property_of c.args.block.now) (property_of c.args.block.now c.args.property.now) _ c.args.self.now.records.now _ c.args.self.now.held c.bytes-key.ensures c.items.ensures c.in-Some.i c.in-Some.ensures in
-    omega (arith, i, length-take c.args.self.now.held c.args.self.now.records.now)
+pub unwrap-requires : goal.unwrap-requires
+unwrap-requires c =
+    let b = c.args.block.now in
+    let free : is_full c.args.self.now.table ≡ false = has_slot (property_of b) (property_of b c.args.property.now) _ c.bytes-key.ensures c.args.self.now.table _ c.find.ensures c.in-None.is c.requires in
+    search rules
 
-pub insert-requires : goal.insert-requires
-insert-requires c =
-    let p = place_inside (property_of c.args.block.now) (property_of c.args.block.now c.args.property.now) _ c.args.self.now.records.now _ c.args.self.now.held c.bytes-key.ensures c.items.ensures _ c.items-in-None.ensures c.place-at.result c.place-at.ensures in (
-      omega (arith, p, length-take c.args.self.now.held c.args.self.now.records.now),
-      free (property_of c.args.block.now) (property_of c.args.block.now c.args.property.now) _ c.args.self.now.records.now _ c.args.self.now.held c.bytes-key.ensures c.items.ensures c.in-None.ensures c.requires,
-    )
+pub returns-in-Some-clause-held : goal.returns-in-Some-clause-held
+returns-in-Some-clause-held c =
+    let b = c.args.block.now in
+    put_over (property_of b) (property_of b c.args.property.now) _ c.bytes-key.ensures c.args.self.now.table _ c.find.ensures c.in-Some.i _ _ c.in-Some.is refl
 
-pub returns-in-Some : goal.returns-in-Some
-returns-in-Some c =
-    record {
-      held = stored_old (property_of c.args.block.now) (property_of c.args.block.now c.args.property.now) _ c.args.self.now.records.now _ c.args.self.now.held c.bytes-key.ensures c.items.ensures c.in-Some.i _ _ c.in-Some.ensures refl;
-      rest = keeps_old c.args.self.now _ c.in-Some.i _
-          (found_inside (property_of c.args.block.now) (property_of c.args.block.now c.args.property.now) _ c.args.self.now.records.now _ c.args.self.now.held c.bytes-key.ensures c.items.ensures c.in-Some.i c.in-Some.ensures) refl refl;
-    }
-
-pub returns-in-None : goal.returns-in-None
-returns-in-None c =
-    let room = free (property_of c.args.block.now) (property_of c.args.block.now c.args.property.now) _ c.args.self.now.records.now _ c.args.self.now.held c.bytes-key.ensures c.items.ensures c.in-None.ensures c.requires in
-    record {
-      held = ap (λ n. map (property_of c.args.block.now) (take n c.insert.new.self.records.now)) c.insert.ensures.held
-          ∙ stored_new (property_of c.args.block.now) (property_of c.args.block.now c.args.property.now) _ c.args.self.now.records.now _ c.args.self.now.held c.bytes-key.ensures c.items.ensures _ c.items-in-None.ensures c.place-at.result c.place-at.ensures
-          c.args.property.now _ c.in-None.ensures room refl c.insert.ensures.records;
-      rest = keeps_new c.args.self.now c.insert.new.self c.place-at.result c.args.property.now
-          (place_inside (property_of c.args.block.now) (property_of c.args.block.now c.args.property.now) _ c.args.self.now.records.now _ c.args.self.now.held c.bytes-key.ensures c.items.ensures _ c.items-in-None.ensures c.place-at.result c.place-at.ensures)
-          room c.insert.ensures.held c.insert.ensures.records;
-    }
+pub returns-in-None-clause-held : goal.returns-in-None-clause-held
+returns-in-None-clause-held c =
+    let b = c.args.block.now in
+    let free = has_slot (property_of b) (property_of b c.args.property.now) _ c.bytes-key.ensures c.args.self.now.table _ c.find.ensures c.in-None.is c.requires in
+    put_between (property_of b) (property_of b c.args.property.now) _ c.bytes-key.ensures c.args.self.now.table _ c.find.ensures c.in-None.is _ c.place-at.result _ free c.place-at.ensures refl c.insert.ensures.table
