@@ -1,5 +1,5 @@
 -- What a build answers, and what it leaves. Assumes nothing.
-use Rattle.std.specs.Prelude.{◌≡◌, Bool, true, false, List, map, take, Some, None, Ok, Err, Option, Result}
+use Rattle.std.specs.Prelude.{◌≡◌, Bool, true, false, List, map, Some, None, Ok, Err, Option, Result}
 use Rattle.model.specs.Bytes.{Bytes}
 use Rattle.model.specs.Refusals as refusals
 use Rattle.model.specs.State.{Change, Metadata}
@@ -78,4 +78,4 @@ pub record Shows {X : Type 0} (b : Built X) (r : ViewMetadata X) : Type 0 where
   pub schemas : r.schemas.now ≡ held_in b.schemas.table
   pub versions : r.versions.now ≡ held_in b.versions.table
   pub version_log : r.version_log.now ≡ held_in b.version_log
-  pub properties : r.properties.now ≡ take b.properties.held b.properties.records.now
+  pub properties : r.properties.now ≡ held_in b.properties.table

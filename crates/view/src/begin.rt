@@ -94,7 +94,7 @@ impl<'t> Beginning<'t> {
         ensures schemas { result.schemas.table.slots.now ≡ schemas.old }
         ensures versions { result.versions.table.slots.now ≡ versions.old }
         ensures log { result.version_log.slots.now ≡ version_log.old }
-        ensures properties { result.properties.records.now ≡ properties.old }
+        ensures properties { result.properties.table.slots.now ≡ properties.old }
         ensures changes { result.changes.slots.now ≡ changes.old }
     {
         let schemas = empty_table(schemas);

@@ -47,11 +47,7 @@ impl<'t, 'a, 'v, S: SchemaKind> ViewMetadataBuilder<'t, 'a, 'v, S> {
         ensures answer { result ≡ record_answer self.old }
         ensures builder { self.new ≡ with_changes (after_push self.old.changes change.entry) self.old }
     {
-        if self.changes.push(change) {
-            Ok(())
-        } else {
-            Err(ChangesFull)
-        }
+        self.changes.push(change).map_err(|_| ChangesFull)
     }
 
     // Sets the location of the view, without its trailing slashes.

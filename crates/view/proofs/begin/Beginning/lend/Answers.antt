@@ -17,7 +17,7 @@ returns g c =
     record {
       model = λ h.
           bare c.args.self.uuid (none_held (schema_of G block) c.empty_table-schemas.result.slots.now _ ts.none h) (none_held (version_of block) c.empty_table-versions.result.slots.now _ vs.none h) (none_held entry_of c.empty_table-version_log.result.slots.now _ es.none h)
-          (none_held (property_of block) c.over-properties.result.records.now _ ps.held h) (none_held (change_of G block) c.empty_table-changes.result.slots.now _ cs.none h)
+          (none_held (property_of block) c.over-properties.result.table.slots.now _ ps.held h) (none_held (change_of G block) c.empty_table-changes.result.slots.now _ cs.none h)
           (ts.room h) (vs.room h) (es.room h) ((ap length ps.records ∙ c.told-properties) h) (cs.room h);
       text = refl;
       schemas = ts.slots;
