@@ -1,8 +1,7 @@
 -- Keys compared: equal, and in their order. Assumes nothing.
-use Rattle.std.proofs.Common.{◌≡◌, ℕ, suc, Bool, true, false, cond, List, [], ◌∷◌, Some, None, Decides, Option, sym, refl, ◌∙◌, arith}
+use Rattle.std.proofs.Common.{◌≡◌, ℕ, suc, true, false, List, [], ◌∷◌, None, Decides, refl, arith}
 use Rattle.std.proofs.lemmas.Slice.Eq.{compares_Decides}
-use Rattle.std.proofs.lemmas.Bool.{true≢false}
-use Rattle.std.proofs.lemmas.Bool.Decides.{nat_tests, same_from_decides, Decides-like}
+use Rattle.std.proofs.lemmas.Bool.Decides.{nat_tests}
 use Rattle.model.specs.Bytes.{Bytes, same_bytes, before}
 use Rattle.model.specs.Version.{Property}
 use Rattle.model.specs.Edits.{misplaced, out_of_order, has_key}
@@ -14,38 +13,30 @@ pub same_refl : (a : Bytes) → same_bytes a a ≡ true
 same_refl a = (bytes_decides a a).1 refl
 
 pub same_sym : (a b : Bytes) → same_bytes a b ≡ same_bytes b a
-same_sym a b = same_from_decides (same_bytes a b) (same_bytes b a) (bytes_decides a b) (Decides-like (same_bytes b a) sym sym (bytes_decides b a))
+same_sym a b = grind (arith, bytes_decides a b, bytes_decides b a)
 
-pub before_trans : (a b c : Bytes) → before a b ≡ true → before b c ≡ true → before a c ≡ true
-before_trans [] [] c p q = absurd (true≢false (sym p))
-before_trans [] (y ∷ ys) [] p q = q
+before_trans : (a b c : Bytes) → before a b ≡ true → before b c ≡ true → before a c ≡ true
+before_trans [] [] c p q = grind arith
+before_trans [] (y ∷ ys) [] p q = grind arith
 before_trans [] (y ∷ ys) (z ∷ zs) p q = refl
-before_trans (x ∷ xs) [] c p q = absurd (true≢false (sym p))
-before_trans (x ∷ xs) (y ∷ ys) [] p q = absurd (true≢false (sym q))
-before_trans (x ∷ xs) (y ∷ ys) (z ∷ zs) p q =
-    let r : before xs ys ≡ true → before ys zs ≡ true → before xs zs ≡ true = before_trans xs ys zs in grind (arith, nat_tests)
+before_trans (x ∷ xs) [] c p q = grind arith
+before_trans (x ∷ xs) (y ∷ ys) [] p q = grind arith
+before_trans (x ∷ xs) (y ∷ ys) (z ∷ zs) p q = let r = before_trans xs ys zs in grind (arith, nat_tests)
 
 -- a key before another is not the same
-pub before_differs : (a b : Bytes) → before a b ≡ true → same_bytes b a ≡ false
-before_differs [] [] p = absurd (true≢false (sym p))
-before_differs [] (y ∷ ys) p = refl
-before_differs (x ∷ xs) [] p = absurd (true≢false (sym p))
-before_differs (x ∷ xs) (y ∷ ys) p = let r : before xs ys ≡ true → same_bytes ys xs ≡ false = before_differs xs ys in grind (arith, nat_tests)
-
--- the test of a place passed, and the test of the rest too
-cond_none : {b : Bool} (o : Option ℕ) (i : ℕ) → cond b o (Some i) ≡ None → (b ≡ true) × (o ≡ None)
-cond_none {b} o i = elim b as (λ v. cond v o (Some i) ≡ None → (v ≡ true) × (o ≡ None)) [ true ↦ λ e. (refl, e) | false ↦ λ e. let z : ◌≡◌ {A = ℕ} 0 1 = cc in absurd (omega arith) ]
+before_differs : (a b : Bytes) → before a b ≡ true → same_bytes b a ≡ false
+before_differs [] b p = grind arith
+before_differs (x ∷ xs) [] p = grind arith
+before_differs (x ∷ xs) (y ∷ ys) p = let r = before_differs xs ys in grind (arith, nat_tests)
 
 -- what comes before the first of keys in order can stand there
 in_front : (i : ℕ) (j k : Bytes) (ps : List Property) → before j k ≡ true → misplaced i k ps ≡ None → misplaced i j ps ≡ None
 in_front i j k [] b e = refl
-in_front i j k (p ∷ ps) b e = let s = cond_none (misplaced (suc i) p.key ps) i e in rw (before_trans j k p.key b s.0) s.1
+in_front i j k (p ∷ ps) b e = grind (arith, before_trans j k p.key)
 
 not_later : (i : ℕ) (k : Bytes) (ps : List Property) → misplaced i k ps ≡ None → has_key k ps ≡ false
 not_later i k [] e = refl
-not_later i k (p ∷ ps) e =
-    let s = cond_none (misplaced (suc i) p.key ps) i e in
-    rw (same_sym k p.key ∙ before_differs k p.key s.0) (not_later (suc i) k ps (in_front (suc i) k p.key ps s.0 s.1))
+not_later i k (p ∷ ps) e = grind (arith, same_sym k p.key, before_differs k p.key, not_later (suc i) k ps, in_front (suc i) k p.key ps)
 
 -- no key comes again
 abbrev pub Distinct : List Property → Type 0
@@ -54,7 +45,7 @@ Distinct (p ∷ ps) = (has_key p.key ps ≡ false) × Distinct ps
 
 distinct_after : (i : ℕ) (k : Bytes) (ps : List Property) → misplaced i k ps ≡ None → Distinct ps
 distinct_after i k [] e = tt
-distinct_after i k (p ∷ ps) e = let s = cond_none (misplaced (suc i) p.key ps) i e in (not_later (suc i) p.key ps s.1, distinct_after (suc i) p.key ps s.1)
+distinct_after i k (p ∷ ps) e = let s : misplaced (suc i) p.key ps ≡ None = grind arith in (not_later (suc i) p.key ps s, distinct_after (suc i) p.key ps s)
 
 -- of keys in order none comes again
 pub distinct : (ps : List Property) → out_of_order ps ≡ None → Distinct ps

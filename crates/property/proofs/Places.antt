@@ -12,7 +12,7 @@ use Rattle.model.specs.Edits.{has_key, revalued, placed, put_property}
 use Rattle.register.specs.declared.table.Table.{Table}
 use Rattle.register.specs.Tables.{held_in, room, is_full, with_inserted, after_insert}
 use Rattle.register.proofs.Moves.{held_inserted}
-use Rattle.property.proofs.Puts.{length_put}
+use Rattle.property.proofs.Puts.{has_look_up, length_put}
 
 module _ {A : Type 0} (f : A → Property) where
   -- the element has the key
@@ -27,8 +27,8 @@ module _ {A : Type 0} (f : A → Property) where
     revalued_at : (xs : List A) (i : ℕ) (y d : A) → i < length xs → has p.key (get_or xs i d) ≡ true → ((k : ℕ) → k < i → has p.key (get_or xs k d) ≡ false) →
         f y ≡ record { key = (f (get_or xs i d)).key; value = p.value } → map f (set xs i y) ≡ revalued p (map f xs)
     revalued_at [] i y d l t h e = absurd (omega arith)
-    revalued_at (x ∷ xs) Prim.Native.Nat.zero y d l t h e = rw t (ap (λ q. q ∷ map f xs) e)
-    revalued_at (x ∷ xs) (suc i) y d l t h e = rw (h 0 (omega arith)) (ap (λ qs. f x ∷ qs) (revalued_at xs i y d (omega arith) t (λ k m. h (suc k) (omega arith)) e))
+    revalued_at (x ∷ xs) Prim.Native.Nat.zero y d l t h e = grind arith
+    revalued_at (x ∷ xs) (suc i) y d l t h e = let r = revalued_at xs i y d (omega arith) t (λ k m. h (suc k) (omega arith)) e in grind (arith, h 0 (omega arith))
 
     -- how many come before the first whose key comes after its key
     abbrev lower : List A → ℕ
@@ -39,8 +39,8 @@ module _ {A : Type 0} (f : A → Property) where
     placed_at (x ∷ xs) y e = by (before p.key (f x).key) (placed_at xs y e)
       where
         by : (b : Bool) → map f (insert xs (lower xs) y) ≡ placed p (map f xs) → map f (insert (x ∷ xs) (cond (not b) (1 + lower xs) 0) y) ≡ cond b (p ∷ f x ∷ map f xs) (f x ∷ placed p (map f xs))
-        by true r = ap (λ t. t ∷ f x ∷ map f xs) e
-        by false r = rw one-add (ap (λ t. f x ∷ t) r)
+        by true r = ap (λ q. q ∷ f x ∷ map f xs) e
+        by false r = rw one-add (ap (λ qs. f x ∷ qs) r)
 
     -- what a search of a table by the bytes of its key found
     module _ (k : Bytes) (same : k ≡ p.key) (t : Table A) (o : Option ℕ) (search' : o ≡ position (has k) (held_in t)) where
@@ -64,10 +64,7 @@ module _ {A : Type 0} (f : A → Property) where
 
         -- there is a free slot, since the list with one more has room
         pub has_slot : length (put_property p (map f (held_in t))) ≤ room t → is_full t ≡ false
-        has_slot h =
-            let n : length (put_property p (map f (held_in t))) ≡ length (held_in t) + 1 = length_put p (map f (held_in t)) ∙ rw new_key (ap (λ n. n + 1) (length-map (held_in t) f)) in
-            let l : t.held < room t = omega (arith, n, h, length-take t.held t.slots.now) in
-            grind (arith, nat_tests)
+        has_slot h = grind (arith, nat_tests, length_put p (map f (held_in t)), has_look_up p.key (map f (held_in t)), new_key, length-map (held_in t) f, length-take t.held t.slots.now)
 
         -- it gets a new record in its place
         pub put_between : (u : Table A) (at : ℕ) (y : A) → is_full t ≡ false → at ≡ prefix_len (λ x. not (before k (f x).key)) (held_in t) → f y ≡ p → u ≡ after_insert at y t → map f (held_in u) ≡ put_property p (map f (held_in t))

@@ -1,11 +1,11 @@
 -- What the searches of a list of properties find, in the words of the model. Assumes nothing.
-use Rattle.std.proofs.Common.{◌≡◌, ℕ, suc, ◌+◌, Bool, true, false, cond, not, ◌&&◌, List, [], ◌∷◌, map, Some, None, Ok, Option, sym, refl, ap, ◌∙◌, add-one, arith}
+use Rattle.std.proofs.Common.{◌≡◌, ℕ, suc, Bool, cond, not, ◌&&◌, List, [], ◌∷◌, map, Some, None, Ok, Option, sym, refl, ap, ◌∙◌, add-one, arith}
 use Rattle.std.specs.List.{find, position, position_from}
 use Rattle.std.specs.Option.{option_map}
 use Rattle.std.proofs.lemmas.Iterator.Adapters.{position_from-zero}
 use Rattle.model.specs.Bytes.{Bytes, same_bytes}
 use Rattle.model.specs.Version.{Property}
-use Rattle.model.specs.Refusals.{bad_text, properties_part, refuse_at, then}
+use Rattle.model.specs.Refusals.{bad_text, properties_part, refuse_at}
 use Rattle.model.specs.Numbers.{below_zero, signed_reading}
 use Rattle.model.specs.Settings.{history_key}
 use Rattle.model.specs.Edits.{read_all, negative_size}
@@ -20,18 +20,9 @@ module _ {A B : Type 0} (good : A → Bool) (f : A → B) where
   abbrev bad : A → Bool
   bad x = not (good x)
 
-  read_more : (x : A) (o : Option ℕ) (ys : List B) → then (refuse_at bad_text properties_part o (Ok ys)) (λ rest. Ok (f x ∷ rest)) ≡ refuse_at bad_text properties_part o (Ok (f x ∷ ys))
-  read_more x None ys = refl
-  read_more x (Some i) ys = refl
-
   read_from : (i : ℕ) (xs : List A) → read_all i (map read xs) ≡ refuse_at bad_text properties_part (position_from bad i xs) (Ok (map f xs))
   read_from i [] = refl
-  read_from i (x ∷ xs) = by (good x) (read_from (i + 1) xs)
-    where
-      by : (b : Bool) → read_all (i + 1) (map read xs) ≡ refuse_at bad_text properties_part (position_from bad (i + 1) xs) (Ok (map f xs)) →
-          read_all i (cond b (Some (f x)) None ∷ map read xs) ≡ refuse_at bad_text properties_part (cond (not b) (Some i) (position_from bad (i + 1) xs)) (Ok (f x ∷ map f xs))
-      by true r = rw (sym (add-one i)) (rw r (read_more x (position_from bad (i + 1) xs) (map f xs)))
-      by false r = refl
+  read_from i (x ∷ xs) = let r = read_from (suc i) xs in rw add-one (grind arith)
 
   -- it is refused at the first bad one
   pub read_as : (xs : List A) (r : Option ℕ) → r ≡ position bad xs → read_all 0 (map read xs) ≡ refuse_at bad_text properties_part r (Ok (map f xs))

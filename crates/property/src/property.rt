@@ -1,12 +1,12 @@
-ghost use Rattle.std.specs.Prelude.{Some, ◌≡◌, ◌+◌, ◌<◌, ◌≤◌, true, not, ◌&&◌, ◌++◌, map, length, take, drop, is_ok, is_err, None, Ok, Err};
+ghost use Rattle.std.specs.Prelude.{◌≡◌, ◌≤◌, true, not, ◌&&◌, map, length, is_ok, is_err, Some, None, Ok, Err};
 ghost use Rattle.std.specs.List.{prefix_len, position, list_any, count_by};
 ghost use Rattle.std.specs.Option.{MatchOption, option_map, is_none};
-ghost use Rattle.model.specs.Bytes.{same_bytes, same_list, before};
-ghost use Rattle.model.specs.Version.{same_property, same_text};
+ghost use Rattle.model.specs.Bytes.{same_bytes, before};
+ghost use Rattle.model.specs.Version.{same_text};
 ghost use Rattle.model.specs.Refusals.{bad_text, properties_part, refuse_at};
 ghost use Rattle.model.specs.Numbers.{signed_reading, below_zero};
 ghost use Rattle.model.specs.Settings.{history_key, drop_key};
-ghost use Rattle.model.specs.Edits.{read_all, out_of_order, negative_size, put_property, put_properties};
+ghost use Rattle.model.specs.Edits.{read_all, out_of_order, negative_size, put_property};
 ghost use Rattle.model.specs.Build.{look_up, history_size, drop_allowed};
 ghost use Rattle.text.specs.Meaning.{bytes_of, sound};
 ghost use Rattle.text.specs.Properties.{property_of, property_in};
@@ -94,7 +94,7 @@ fn refuse_at(refusal: PropertyRefusal, found: Option<usize>) -> Result<(), Prope
 }
 
 // The tests that need no table: the number of the updates, then their texts, then their order, then the history size.
-#[tactic(auto, using(crate::proofs::Decided::many_refused))]
+#[tactic(auto, unfolding(model::specs::Edits::properties_after))]
 fn check(updates: &[Property], block: &[u8]) -> Result<(), PropertyFault>
     ensures { FirstTests block.now updates.now result }
 {
