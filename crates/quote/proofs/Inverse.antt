@@ -1,12 +1,13 @@
 -- What is written in quotes reads back to the same bytes. Assumes nothing.
-use Rattle.std.proofs.Common.{◌≡◌, ℕ, ◌+◌, ◌*◌, ◌/◌, ◌%◌, ◌<◌, true, false, ◌&&◌, ◌||◌, eqb, leb, List, [], ◌∷◌, ◌++◌, Some, refl, ap, ◌∙◌, div-add-mod', arith}
+use Rattle.std.proofs.Common.{◌≡◌, ℕ, ◌+◌, ◌*◌, ◌/◌, ◌%◌, ◌<◌, true, false, ◌&&◌, ◌||◌, eqb, leb, List, [], ◌∷◌, ◌++◌, Some, refl, ap, ◌∙◌, div-add-mod', arith, Fits, w8, get_or}
+use Rattle.std.proofs.ByRecursion.{All-from_get_or}
 use Rattle.std.specs.List.{flat_map}
 use Rattle.std.proofs.lemmas.List.{append_assoc}
 use Rattle.std.proofs.lemmas.Bool.{cond_both, cond-true, cond-false, or_parts}
 use Rattle.std.proofs.lemmas.Bool.Decides.{nat_tests}
 use Rattle.quote.specs.declared.read.Mode.TheVariants.{Plain, Escape, Low}
 use Rattle.quote.specs.declared.read.Step.TheVariants.{Byte, More, Close}
-use Rattle.quote.specs.Quotes.{hex_digit, hex_value, escaped, quoted, with_byte, follow, on_digit, reading, unquoted, AllBytes}
+use Rattle.quote.specs.Quotes.{hex_digit, hex_value, escaped, with_byte, follow, on_digit, reading, ReadsBack, AllBytes}
 
 hex_back : (n : ℕ) → n < 16 → hex_value (hex_digit n) ≡ Some n
 hex_back n h = grind (arith, nat_tests)
@@ -38,5 +39,7 @@ pieces_back (b ∷ bs) rest h =
     ap (reading Plain) (append_assoc (escaped b) (flat_map escaped bs) (34 ∷ rest))
     ∙ (piece_back b h.0 (flat_map escaped bs ++ (34 ∷ rest)) ∙ ap (with_byte b) (pieces_back bs rest h.1))
 
-pub reads_back : (bs rest : List ℕ) → AllBytes bs → unquoted (quoted bs ++ rest) ≡ Some (record { bytes = bs; rest = rest })
-reads_back bs rest h = ap (reading Plain) (append_assoc (flat_map escaped bs) (34 ∷ []) rest) ∙ pieces_back bs rest h
+-- the bytes of a slice are bytes
+pub reads_back : (bs : List ℕ) → ((i : ℕ) → Fits w8 (get_or bs i 0)) → ReadsBack bs
+reads_back bs h = λ rest.
+    ap (reading Plain) (append_assoc (flat_map escaped bs) (34 ∷ []) rest) ∙ pieces_back bs rest (All-from_get_or _ bs 0 (λ i _. omega (arith, h i)))
