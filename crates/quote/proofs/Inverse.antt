@@ -1,10 +1,10 @@
 -- What is written in quotes reads back to the same bytes. Assumes nothing.
-use Rattle.std.proofs.Common.{◌≡◌, ℕ, ◌/◌, ◌%◌, ◌<◌, List, [], ◌∷◌, ◌++◌, Some, refl, ap, ◌∙◌, div-add-mod', arith, Fits, w8, get_or}
+use Rattle.std.proofs.Common.{◌≡◌, ℕ, ◌/◌, ◌%◌, ◌<◌, List, [], ◌∷◌, ◌++◌, Some, refl, ap, ◌∙◌, div-add-mod', arith, Fits, w8, get_or, option_and_then}
 use Rattle.std.proofs.ByRecursion.{All-from_get_or}
 use Rattle.std.specs.List.{flat_map}
 use Rattle.std.proofs.lemmas.List.{append_assoc}
 use Rattle.std.proofs.lemmas.Bool.Decides.{nat_tests}
-use Rattle.quote.specs.Quotes.{hex_digit, hex_value, escaped, with_byte, with_digits, reading, ReadsBack, AllBytes}
+use Rattle.quote.specs.Quotes.{hex_digit, hex_value, escaped, with_byte, hex_byte, reading, ReadsBack, AllBytes}
 
 hex_back : (n : ℕ) → n < 16 → hex_value (hex_digit n) ≡ Some n
 hex_back n h = grind (arith, nat_tests)
@@ -13,11 +13,11 @@ hex_back n h = grind (arith, nat_tests)
 abbrev Reads : ℕ → List ℕ → List ℕ → Type 0
 Reads b s w = reading (w ++ s) ≡ with_byte b (reading s)
 
+digits_back : (b : ℕ) → b < 256 → hex_byte (hex_digit (b / 16)) (hex_digit (b % 16)) ≡ Some b
+digits_back b h = rw (hex_back (b / 16) (omega arith), hex_back (b % 16) (omega arith)) (ap Some (div-add-mod' b 16))
+
 by_digits : (b : ℕ) (s : List ℕ) → b < 256 → Reads b s (92 ∷ 120 ∷ hex_digit (b / 16) ∷ hex_digit (b % 16) ∷ [])
-by_digits b s h =
-    ap (λ o. with_digits o (hex_value (hex_digit (b % 16))) (reading s)) (hex_back (b / 16) (omega arith))
-    ∙ (ap (λ o. with_digits (Some (b / 16)) o (reading s)) (hex_back (b % 16) (omega arith))
-    ∙ ap (λ v. with_byte v (reading s)) (div-add-mod' b 16))
+by_digits b s h = ap (λ o. option_and_then (λ v. with_byte v (reading s)) o) (digits_back b h)
 
 piece_back : (b : ℕ) → b < 256 → (s : List ℕ) → Reads b s (escaped b)
 piece_back b h s = grind (arith, by_digits b s h)

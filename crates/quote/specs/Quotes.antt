@@ -1,5 +1,5 @@
 -- A text in quotes: how bytes are written, and how they are read back. Assumes nothing.
-use Rattle.std.specs.Prelude.{◌≡◌, ℕ, ◌+◌, ◌-◌, ◌*◌, ◌/◌, ◌%◌, ◌<◌, cond, ◌&&◌, ◌||◌, List, [], ◌∷◌, ◌++◌, Some, None, Option, ◌==◌, nat_le, nat_lt}
+use Rattle.std.specs.Prelude.{◌≡◌, ℕ, ◌+◌, ◌-◌, ◌*◌, ◌/◌, ◌%◌, ◌<◌, cond, ◌&&◌, ◌||◌, List, [], ◌∷◌, ◌++◌, Some, None, Option, ◌==◌, nat_le, nat_lt, option_and_then, option_map}
 use Rattle.std.specs.List.{flat_map, AllByRecursion}
 
 -- the digit of a number below 16: 0 to 9 (48 to 57), a to f (97 to 102)
@@ -28,6 +28,10 @@ hex_value d =
     (cond (nat_le 97 d && nat_le d 102) (Some (d - 87))
     (cond (nat_le 65 d && nat_le d 70) (Some (d - 55)) None))
 
+-- the byte that two digits write, none where one of them is no digit
+abbrev pub hex_byte : ℕ → ℕ → Option ℕ
+hex_byte h l = option_and_then (λ x. option_map (λ y. x * 16 + y) (hex_value l)) (hex_value h)
+
 -- a text that was read, and what follows its closing quote
 pub record Reading : Type 0 where
   pub bytes : List ℕ
@@ -37,11 +41,6 @@ pub record Reading : Type 0 where
 abbrev pub with_byte : ℕ → Option Reading → Option Reading
 with_byte b None = None
 with_byte b (Some q) = Some (record { bytes = b ∷ q.bytes; rest = q.rest })
-
--- the byte of two digits before what is read after them, none where one of the two is no digit
-abbrev pub with_digits : Option ℕ → Option ℕ → Option Reading → Option Reading
-with_digits (Some h) (Some l) r = with_byte (h * 16 + l) r
-with_digits _ _ r = None
 
 -- what is read from here on, none where the text is not closed or an escape is bad: up to a ", and after a \ an escape
 abbrev mutual
@@ -62,7 +61,7 @@ abbrev mutual
   pub digits_reading : List ℕ → Option Reading
   digits_reading [] = None
   digits_reading (h ∷ []) = None
-  digits_reading (h ∷ l ∷ bs) = with_digits (hex_value h) (hex_value l) (reading bs)
+  digits_reading (h ∷ l ∷ bs) = option_and_then (λ b. with_byte b (reading bs)) (hex_byte h l)
 
 -- what is read where no byte comes next: nothing more at a closing quote, else none
 abbrev pub closing : List ℕ → Option Reading

@@ -1,5 +1,5 @@
 ghost use Rattle.std.specs.Prelude.{◌≡◌, ◌<◌, ◌++◌, is_ok, if◌then◌else◌};
-ghost use Rattle.quote.specs.Quotes.{hex_digit, hex_digits, hex_value};
+ghost use Rattle.quote.specs.Quotes.{hex_byte, hex_digit, hex_digits, hex_value};
 
 use std::alloc::AllocError;
 
@@ -8,6 +8,13 @@ pub fn hex_value(digit: u8) -> Option<u8>
     ensures { result ≡ hex_value digit }
 {
     char::from(digit).to_digit(16).map(|value| value as u8)
+}
+
+// The byte that two hexadecimal digits of either case write, the high one first.
+pub fn hex_byte(high: u8, low: u8) -> Option<u8>
+    ensures { result ≡ hex_byte high low }
+{
+    Some(hex_value(high)? * 16 + hex_value(low)?)
 }
 
 // The hexadecimal digit of a number below 16, in small letters.

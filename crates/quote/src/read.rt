@@ -2,7 +2,7 @@ ghost use Rattle.std.specs.Prelude.{◌≡◌, ◌<◌, false, length, take, IfO
 ghost use Rattle.quote.specs.Quotes.{closing, reading, with_byte};
 ghost use Rattle.quote.specs.Calls.{Found, IsEndOf, has_text};
 
-use super::hex::hex_value;
+use super::hex::hex_byte;
 use std::alloc::AllocError;
 
 // The byte that comes next, as it is or by its escape, and the input after it. None at a quote, a bad escape or the end.
@@ -14,9 +14,7 @@ fn read_byte(input: &[u8]) -> Option<(u8, &[u8])>
     ensures shorter { IfSome result (λ p. length p.1.now < length input.now) }
 {
     match input {
-        [b'\\', b'x', high, low, rest @ ..] => {
-            Some((hex_value(*high)? * 16 + hex_value(*low)?, rest))
-        }
+        [b'\\', b'x', high, low, rest @ ..] => Some((hex_byte(*high, *low)?, rest)),
         [b'\\', byte @ (b'"' | b'\\'), rest @ ..] => Some((*byte, rest)),
         [] | [b'"' | b'\\', ..] => None,
         [byte, rest @ ..] => Some((*byte, rest)),
