@@ -1,7 +1,9 @@
 ghost use Rattle.std.specs.Prelude.{◌≡◌, ◌↔◌, [], length, drop, IsTrue, IsOk, IfErr, MatchResult, is_ok, IsUtf8, if◌then◌else◌};
+ghost use Rattle.std.specs.Option.{ok_or};
+ghost use Rattle.std.specs.Result.{result_ok};
 ghost use Rattle.std.specs.Int.{w32, w64};
 ghost use Rattle.std.specs.Str.Parse.{ParsesSigned, ParsesUnsigned};
-ghost use Rattle.cursor.specs.Line.{is_blank, past_blanks, first_word, past_word, next_word, after_blanks, after_word};
+ghost use Rattle.cursor.specs.Line.{is_blank, past_blanks, first_word, past_word, next_word, pair_byte, uuid_of, after_blanks, after_word};
 
 use super::fault::{Expected, ReadFault};
 use quote::hex::hex_byte;
@@ -38,6 +40,7 @@ fn split_word(line: &[u8]) -> (&[u8], &[u8])
 }
 
 // The line without the blanks that it begins with.
+// Kept: apart from `split_word`, since one function over the test would need a law of its closure in its contract.
 fn past_blanks(line: &[u8]) -> &[u8]
     ensures { result.now ≡ past_blanks line.now }
 {
@@ -48,15 +51,23 @@ fn past_blanks(line: &[u8]) -> &[u8]
     &line[blanks..]
 }
 
+// The byte that a pair of hexadecimal digits writes.
+fn pair_byte(pair: [u8; 2]) -> Result<u8, ()>
+    ensures { result ≡ ok_or (pair_byte pair) tt }
+{
+    let [high, low] = pair;
+    hex_byte(high, low).ok_or(())
+}
+
 // The bytes that 32 hexadecimal digits write.
-fn uuid_of(word: &[u8]) -> Option<[u8; 16]> {
+fn uuid_of(word: &[u8]) -> Option<[u8; 16]>
+    ensures { result ≡ uuid_of word.now }
+{
     let (pairs, []) = word.as_chunks::<2>() else {
         return None;
     };
     let pairs: [[u8; 2]; 16] = pairs.try_into().ok()?;
-    pairs
-        .try_map(|[high, low]| hex_byte(high, low).ok_or(()))
-        .ok()
+    pairs.try_map(pair_byte).ok()
 }
 
 impl<'l> Cursor<'l> {
@@ -185,6 +196,7 @@ impl<'l> Cursor<'l> {
     }
 
     pub fn uuid(&mut self) -> Result<[u8; 16], ReadFault>
+        ensures value { result_ok result ≡ uuid_of (next_word self.old) }
         ensures err { IfErr result (λ e. e ≡ ReadFault.Expected Expected.Uuid) }
         ensures after { self.new ≡ after_word self.old }
     {
