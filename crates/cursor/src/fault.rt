@@ -1,4 +1,6 @@
 use std::alloc::{AllocError, AllocFailed};
+use std::error::Error;
+use std::fmt;
 
 // What a line should have had at the place where it could not be read.
 #[derive(Clone, Copy, Debug)]
@@ -16,8 +18,13 @@ pub enum Expected {
 }
 
 impl Expected {
+    ghost use Rattle.std.specs.Prelude.{◌≡◌};
+    ghost use Rattle.cursor.specs.Wanted.{wanted_words};
+
     // In words, after "expected".
-    pub fn words(&self) -> &'static str {
+    pub fn words(&self) -> &'static str
+        ensures { result.now ≡ wanted_words self.now }
+    {
         match self {
             Expected::Statement => "a statement",
             Expected::Word(word) => word,
@@ -33,20 +40,52 @@ impl Expected {
     }
 }
 
+impl fmt::Display for Expected {
+    ghost use Rattle.std.specs.Prelude.{Some};
+    ghost use Rattle.cursor.specs.Wanted.{wanted_words};
+
+    ghost output = { λ e. Some (wanted_words e) };
+
+    fn fmt<W: fmt::Write>(&self, f: &mut fmt::Formatter<W>) -> fmt::Result {
+        f.write_str(self.words())
+    }
+}
+
 // Why a line was not read.
-#[derive(Drop)]
+#[derive(Debug, Drop)]
 pub enum ReadFault {
     NoMemory,
     Expected(Expected),
 }
 
+impl fmt::Display for ReadFault {
+    fn fmt<W: fmt::Write>(&self, f: &mut fmt::Formatter<W>) -> fmt::Result {
+        match self {
+            ReadFault::NoMemory => write!(f, "out of memory"),
+            ReadFault::Expected(expected) => write!(f, "expected {expected}"),
+        }
+    }
+}
+
+impl Error for ReadFault {}
+
 impl From<AllocError> for ReadFault {
+    ghost use Rattle.std.specs.Prelude.{◌≡◌};
+    ghost use Rattle.cursor.specs.declared.fault.ReadFault.TheVariants.{NoMemory};
+
+    ghost from_gives = { λ _ fault. fault ≡ NoMemory };
+
     fn from(_fault: AllocError) -> ReadFault {
         ReadFault::NoMemory
     }
 }
 
 impl<T: Drop> From<AllocFailed<T>> for ReadFault {
+    ghost use Rattle.std.specs.Prelude.{◌≡◌};
+    ghost use Rattle.cursor.specs.declared.fault.ReadFault.TheVariants.{NoMemory};
+
+    ghost from_gives = { λ _ fault. fault ≡ NoMemory };
+
     fn from(_refused: AllocFailed<T>) -> ReadFault {
         ReadFault::NoMemory
     }

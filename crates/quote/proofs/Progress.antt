@@ -1,13 +1,9 @@
 -- How far a reading has come: what was read so far, and what is still to be read. Assumes nothing.
-use Rattle.std.proofs.Common.{◌≡◌, ℕ, ◌+◌, ◌<◌, ◌≤◌, List, [], ◌∷◌, ◌++◌, length, get_or, take, drop, Some, None, Option, sym, refl, ap, ◌∙◌, arith}
-use Rattle.std.proofs.lemmas.List.{at_drop_more, at_drop_all}
-use Rattle.quote.specs.declared.read.Mode.{Mode}
-use Rattle.quote.specs.declared.read.Mode.TheVariants.{Plain}
-use Rattle.quote.specs.declared.read.Step.{Step}
-use Rattle.quote.specs.declared.read.Step.TheVariants.{Byte, More, Close, Bad}
-use Rattle.quote.specs.Quotes.{Reading, with_byte, follow, meaning, reading, unquoted}
-use Rattle.quote.specs.Calls.{Found}
-use Rattle.quote.proofs.Appends.{then, kept_front}
+use Rattle.std.proofs.Common.{◌≡◌, ℕ, ◌+◌, ◌-◌, ◌<◌, ◌≤◌, List, [], ◌∷◌, ◌++◌, length, take, drop, Some, None, Option, refl, ap, ◌∙◌, arith, option_map, length-drop, MatchOption, Bor, eqb, true, false}
+use lib.Pointwise.{pointwise}
+use Rattle.std.proofs.lemmas.List.{append_assoc, drop-drop}
+use Rattle.quote.specs.Quotes.{Reading, with_byte, closing, reading, unquoted}
+use Rattle.quote.specs.Calls.{Found, IsEndOf}
 
 -- the bytes before what is read after them
 abbrev pub with_bytes : List ℕ → Option Reading → Option Reading
@@ -26,32 +22,48 @@ with_bytes_end : (bs rest : List ℕ) → with_bytes bs (Some (record { bytes = 
 with_bytes_end [] rest = refl
 with_bytes_end (x ∷ bs) rest = ap (with_byte x) (with_bytes_end bs rest)
 
--- the first i bytes of the input were read, and what they gave stands after what was there before
-abbrev pub SoFar : List ℕ → List ℕ → List ℕ → Mode → ℕ → Type 0
-SoFar input before now m i = (bs : List ℕ) × (now ≡ before ++ bs) × (unquoted input ≡ with_bytes bs (reading m (drop i input)))
+-- what the bytes read so far gave stands after what was there before, and the rest of the input is still to be read
+pub record SoFar (input before now rest : List ℕ) : Type 0 where
+  pub bytes : List ℕ
+  pub appended : now ≡ before ++ bytes
+  pub read : unquoted input ≡ with_bytes bytes (reading rest)
+  pub place : IsEndOf rest input
 
-pub so_far_kept : (input before now : List ℕ) (m : Mode) (i : ℕ) → SoFar input before now m i → take (length before) now ≡ before
-so_far_kept input before now m i (bs, e, f) = kept_front before bs now e
+-- the end of an end
+further : (input rest after : List ℕ) → IsEndOf rest input → length after ≤ length rest → IsEndOf after rest → IsEndOf after input
+further input rest after p h q =
+    let l : length rest ≤ length input = omega (arith, ap length p, length-drop (length input - length rest) input) in
+    q ∙ (ap (drop (length rest - length after)) p
+    ∙ (drop-drop (length rest - length after) (length input - length rest) input
+    ∙ ap (λ n. drop n input) (omega (arith, l))))
 
--- what is read on, at a byte of a known meaning
-on_step : (input bs : List ℕ) (m : Mode) (i : ℕ) (s : Step) → i < length input → s ≡ meaning m (get_or input i 0) → unquoted input ≡ with_bytes bs (reading m (drop i input)) → unquoted input ≡ with_bytes bs (follow s (drop (i + 1) input) (λ n. reading n (drop (i + 1) input)))
-on_step input bs m i s h e f =
-    f ∙ (ap (with_bytes bs) (at_drop_more (reading m) input i 0 h)
-    ∙ ap (λ t. with_bytes bs (follow t (drop (i + 1) input) (λ n. reading n (drop (i + 1) input)))) (sym e))
+-- one byte more
+pub so_far_byte : (input before mid now rest after : List ℕ) (b : ℕ) → SoFar input before mid rest → reading rest ≡ with_byte b (reading after) → IsEndOf after rest → length after < length rest → now ≡ mid ++ b ∷ [] → SoFar input before now after
+so_far_byte input before mid now rest after b s e p h q = record {
+  bytes = s.bytes ++ b ∷ [];
+  appended = q ∙ (ap (λ l. l ++ b ∷ []) s.appended ∙ append_assoc before s.bytes (b ∷ []));
+  read = s.read ∙ (ap (with_bytes s.bytes) e ∙ with_bytes_push s.bytes b (reading after));
+  place = further input rest after s.place (omega (arith, h)) p;
+}
 
-pub so_far_byte : (input before mid now : List ℕ) (m : Mode) (i v : ℕ) → i < length input → Byte v ≡ meaning m (get_or input i 0) → now ≡ mid ++ v ∷ [] → SoFar input before mid m i → SoFar input before now Plain (i + 1)
-so_far_byte input before mid now m i v h e p (bs, q, f) =
-    (bs ++ v ∷ [], then before bs (v ∷ []) mid now q p, on_step input bs m i (Byte v) h e f ∙ with_bytes_push bs v (reading Plain (drop (i + 1) input)))
+-- a quote is cut off the front, where one stands there
+abbrev pub CutsQuote : List ℕ → Option (Bor (List ℕ)) → Type 0
+CutsQuote w o =
+    MatchOption o (pointwise eqb (take 1 w) (34 ∷ []) ≡ false)
+    (λ x. (pointwise eqb (take 1 w) (34 ∷ []) ≡ true) × (x.now ≡ drop 1 w) × (length x.now + 1 ≡ length w))
 
-pub so_far_more : (input before now : List ℕ) (m : Mode) (i : ℕ) (n : Mode) → i < length input → More n ≡ meaning m (get_or input i 0) → SoFar input before now m i → SoFar input before now n (i + 1)
-so_far_more input before now m i n h e (bs, q, f) = (bs, q, on_step input bs m i (More n) h e f)
+-- what is read there
+closing_of : (w : List ℕ) (o : Option (Bor (List ℕ))) → CutsQuote w o → closing w ≡ option_map (λ (x : Bor (List ℕ)). record { bytes = []; rest = x.now }) o
+closing_of [] None h = refl
+closing_of [] (Some x) h = cc
+closing_of (b ∷ bs) None h = grind arith
+closing_of (b ∷ bs) (Some x) h = grind arith
 
-pub found_text : (input before now : List ℕ) (m : Mode) (i : ℕ) → i < length input → Close ≡ meaning m (get_or input i 0) → SoFar input before now m i → Found input before now (Some (i + 1))
-found_text input before now m i h e (bs, q, f) =
-    (omega arith, (bs, q, on_step input bs m i Close h e f ∙ with_bytes_end bs (drop (i + 1) input)))
-
-pub found_bad : (input before now : List ℕ) (m : Mode) (i : ℕ) → i < length input → Bad ≡ meaning m (get_or input i 0) → SoFar input before now m i → unquoted input ≡ None
-found_bad input before now m i h e (bs, q, f) = on_step input bs m i Bad h e f ∙ with_bytes_none bs
-
-pub found_end : (input before now : List ℕ) (m : Mode) (i : ℕ) → length input ≤ i → SoFar input before now m i → unquoted input ≡ None
-found_end input before now m i h (bs, q, f) = f ∙ (ap (with_bytes bs) (at_drop_all (reading m) input i h) ∙ with_bytes_none bs)
+-- the closing quote, or none
+pub found : (input before now rest : List ℕ) (o : Option (Bor (List ℕ))) → SoFar input before now rest → reading rest ≡ closing rest → CutsQuote rest o → Found input before now (option_map (λ (x : Bor (List ℕ)). length input - length x.now) o)
+found input before now rest None s e h = s.read ∙ (ap (with_bytes s.bytes) (e ∙ closing_of rest None h) ∙ with_bytes_none s.bytes)
+found input before now rest (Some x) s e h =
+    let cut : 1 ≡ length rest - length x.now = omega (arith, h.2) in
+    let place : IsEndOf x.now input = further input rest x.now s.place (omega (arith, h.2)) (h.1 ∙ ap (λ n. drop n rest) cut) in
+    let read : unquoted input ≡ Some (record { bytes = s.bytes; rest = x.now }) = s.read ∙ (ap (with_bytes s.bytes) (e ∙ closing_of rest (Some x) h) ∙ with_bytes_end s.bytes x.now) in
+    (omega arith, (s.bytes, s.appended, read ∙ ap (λ r. Some (record { bytes = s.bytes; rest = r })) place))

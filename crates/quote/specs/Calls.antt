@@ -1,9 +1,5 @@
 -- What the calls do to the vector that they are lent. Assumes nothing.
-use Rattle.std.specs.Prelude.{◌≡◌, ℕ, ◌<◌, ◌≤◌, Bool, true, false, List, ◌++◌, length, drop, Some, None, Ok, Err, Option, Result}
-use Rattle.quote.specs.declared.read.Mode.{Mode}
-use Rattle.quote.specs.declared.read.Mode.TheVariants.{Opening, Plain, Escape, High, Low}
-use Rattle.quote.specs.declared.read.Step.{Step}
-use Rattle.quote.specs.declared.read.Step.TheVariants.{Byte, More, Close, Bad}
+use Rattle.std.specs.Prelude.{◌≡◌, ℕ, ◌≤◌, ◌-◌, Bool, true, false, List, ◌++◌, length, drop, Some, None, Ok, Err, Option, Result}
 use Rattle.quote.specs.Quotes.{unquoted}
 
 -- where a text was found, n bytes of the input were taken, and the text's bytes stand after what was there before
@@ -18,17 +14,6 @@ has_text (Ok None) = false
 has_text (Ok (Some n)) = true
 has_text (Err e) = false
 
--- a first digit is below 16
-abbrev pub Small : Mode → Type 0
-Small Opening = Unit {0}
-Small Plain = Unit {0}
-Small Escape = Unit {0}
-Small High = Unit {0}
-Small (Low h) = h < 16
-
--- the same of what a byte means, and a byte is below 256
-abbrev pub SmallStep : Step → Type 0
-SmallStep (Byte b) = b < 256
-SmallStep (More m) = Small m
-SmallStep Close = Unit {0}
-SmallStep Bad = Unit {0}
+-- the last part of a list
+abbrev pub IsEndOf : List ℕ → List ℕ → Type 0
+IsEndOf after input = after ≡ drop (length input - length after) input

@@ -1,10 +1,6 @@
 -- A text in quotes: how bytes are written, and how they are read back. Assumes nothing.
-use Rattle.std.specs.Prelude.{◌≡◌, ℕ, ◌+◌, ◌-◌, ◌*◌, ◌/◌, ◌%◌, ◌<◌, cond, ◌&&◌, ◌||◌, List, [], ◌∷◌, ◌++◌, Some, None, Option, ◌==◌, nat_le, nat_lt}
+use Rattle.std.specs.Prelude.{◌≡◌, ℕ, ◌+◌, ◌-◌, ◌*◌, ◌/◌, ◌%◌, ◌<◌, cond, ◌&&◌, ◌||◌, List, [], ◌∷◌, ◌++◌, Some, None, Option, ◌==◌, nat_le, nat_lt, option_and_then, option_map}
 use Rattle.std.specs.List.{flat_map, AllByRecursion}
-use Rattle.quote.specs.declared.read.Mode.{Mode}
-use Rattle.quote.specs.declared.read.Mode.TheVariants.{Opening, Plain, Escape, High, Low}
-use Rattle.quote.specs.declared.read.Step.{Step}
-use Rattle.quote.specs.declared.read.Step.TheVariants.{Byte, More, Close, Bad}
 
 -- the digit of a number below 16: 0 to 9 (48 to 57), a to f (97 to 102)
 abbrev pub hex_digit : ℕ → ℕ
@@ -32,18 +28,9 @@ hex_value d =
     (cond (nat_le 97 d && nat_le d 102) (Some (d - 87))
     (cond (nat_le 65 d && nat_le d 70) (Some (d - 55)) None))
 
--- a step by a digit's number
-abbrev pub on_digit : Option ℕ → (ℕ → Step) → Step
-on_digit None next = Bad
-on_digit (Some d) next = next d
-
--- what the next byte means, by where it stands: before the opening quote, between pieces, after \, after \x, after \x and a digit
-abbrev pub meaning : Mode → ℕ → Step
-meaning Opening b = cond (b == 34) (More Plain) Bad
-meaning Plain b = cond (b == 34) Close (cond (b == 92) (More Escape) (Byte b))
-meaning Escape b = cond (b == 34 || b == 92) (Byte b) (cond (b == 120) (More High) Bad)
-meaning High b = on_digit (hex_value b) (λ d. More (Low d))
-meaning (Low h) b = on_digit (hex_value b) (λ d. Byte (h * 16 + d))
+-- the byte that two digits write, none where one of them is no digit
+abbrev pub hex_byte : ℕ → ℕ → Option ℕ
+hex_byte h l = option_and_then (λ x. option_map (λ y. x * 16 + y) (hex_value l)) (hex_value h)
 
 -- a text that was read, and what follows its closing quote
 pub record Reading : Type 0 where
@@ -55,21 +42,36 @@ abbrev pub with_byte : ℕ → Option Reading → Option Reading
 with_byte b None = None
 with_byte b (Some q) = Some (record { bytes = b ∷ q.bytes; rest = q.rest })
 
--- goes on by the meaning of a byte; bs follows it, and next reads bs
-abbrev pub follow : Step → List ℕ → (Mode → Option Reading) → Option Reading
-follow (Byte b) bs next = with_byte b (next Plain)
-follow (More m) bs next = next m
-follow Close bs next = Some (record { bytes = []; rest = bs })
-follow Bad bs next = None
+-- what is read from here on, none where the text is not closed or an escape is bad: up to a ", and after a \ an escape
+abbrev mutual
+  pub reading : List ℕ → Option Reading
+  reading [] = None
+  reading (b ∷ bs) =
+      cond (b == 34) (Some (record { bytes = []; rest = bs }))
+      (cond (b == 92) (escape_reading bs) (with_byte b (reading bs)))
 
--- what is read from here on, none where the text is not closed or an escape is bad
-abbrev pub reading : Mode → List ℕ → Option Reading
-reading m [] = None
-reading m (b ∷ bs) = follow (meaning m b) bs (λ n. reading n bs)
+  -- after a \: a " or a \ as it is, or an x and two digits
+  pub escape_reading : List ℕ → Option Reading
+  escape_reading [] = None
+  escape_reading (b ∷ bs) =
+      cond (b == 34 || b == 92) (with_byte b (reading bs))
+      (cond (b == 120) (digits_reading bs) None)
+
+  -- after \x
+  pub digits_reading : List ℕ → Option Reading
+  digits_reading [] = None
+  digits_reading (h ∷ []) = None
+  digits_reading (h ∷ l ∷ bs) = option_and_then (λ b. with_byte b (reading bs)) (hex_byte h l)
+
+-- what is read where no byte comes next: nothing more at a closing quote, else none
+abbrev pub closing : List ℕ → Option Reading
+closing [] = None
+closing (b ∷ bs) = cond (b == 34) (Some (record { bytes = []; rest = bs })) None
 
 -- the text at the start, from its opening quote on
 abbrev pub unquoted : List ℕ → Option Reading
-unquoted = reading Opening
+unquoted [] = None
+unquoted (b ∷ bs) = cond (b == 34) (reading bs) None
 
 -- each is a byte
 abbrev pub AllBytes : List ℕ → Type 0

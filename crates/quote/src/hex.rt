@@ -1,5 +1,5 @@
 ghost use Rattle.std.specs.Prelude.{◌≡◌, ◌<◌, ◌++◌, is_ok, if◌then◌else◌};
-ghost use Rattle.quote.specs.Quotes.{hex_digit, hex_digits, hex_value};
+ghost use Rattle.quote.specs.Quotes.{hex_byte, hex_digit, hex_digits, hex_value};
 
 use std::alloc::AllocError;
 
@@ -7,25 +7,34 @@ use std::alloc::AllocError;
 pub fn hex_value(digit: u8) -> Option<u8>
     ensures { result ≡ hex_value digit }
 {
-    match digit {
-        b'0'..=b'9' => Some(digit - b'0'),
-        b'a'..=b'f' => Some(digit - b'a' + 10),
-        b'A'..=b'F' => Some(digit - b'A' + 10),
-        _ => None,
-    }
+    char::from(digit).to_digit(16).map(|value| value as u8)
+}
+
+// The byte that two hexadecimal digits of either case write, the high one first.
+pub fn hex_byte(high: u8, low: u8) -> Option<u8>
+    ensures { result ≡ hex_byte high low }
+{
+    Some(hex_value(high)? * 16 + hex_value(low)?)
 }
 
 // The hexadecimal digit of a number below 16, in small letters.
-pub(crate) fn hex_digit(n: u8) -> u8
+fn hex_digit(n: u8) -> u8
     requires { n < 16 }
     ensures { result ≡ hex_digit n }
 {
     if n < 10 { b'0' + n } else { b'a' + (n - 10) }
 }
 
+// The two hexadecimal digits of a byte, the high one first.
+pub(crate) fn hex_digits(byte: u8) -> [u8; 2]
+    ensures { result ≡ hex_digits byte }
+{
+    [hex_digit(byte / 16), hex_digit(byte % 16)]
+}
+
 // Appends the two hexadecimal digits of a byte; where memory runs out, `out` is as it was.
 pub fn write_hex(out: &mut Vec<u8>, byte: u8) -> Result<(), AllocError>
     ensures { out.new.items ≡ (if is_ok result then out.old.items ++ hex_digits byte else out.old.items) }
 {
-    out.extend_from_slice(&[hex_digit(byte / 16), hex_digit(byte % 16)])
+    out.extend_from_slice(&hex_digits(byte))
 }

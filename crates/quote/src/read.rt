@@ -1,58 +1,23 @@
-ghost use Rattle.std.specs.Prelude.{◌≡◌, false, length, take, IfOk};
-ghost use Rattle.quote.specs.Quotes.{meaning};
-ghost use Rattle.quote.specs.Calls.{Small, SmallStep, Found, has_text};
+ghost use Rattle.std.specs.Prelude.{◌≡◌, ◌<◌, false, length, take, IfOk, IfSome, MatchOption};
+ghost use Rattle.quote.specs.Quotes.{closing, reading, with_byte};
+ghost use Rattle.quote.specs.Calls.{Found, IsEndOf, has_text};
 
-use super::hex::hex_value;
+use super::hex::hex_byte;
 use std::alloc::AllocError;
 
-// Where a byte of a quoted text stands: before the opening quote, between pieces, after \, after \x, after \x and a digit.
-#[derive(Clone, Copy)]
-enum Mode {
-    Opening,
-    Plain,
-    Escape,
-    High,
-    Low(u8),
-}
-
-// What a byte of a quoted text means.
-#[derive(Clone, Copy)]
-enum Step {
-    Byte(u8),
-    More(Mode),
-    Close,
-    Bad,
-}
-
-fn take_byte(mode: Mode, byte: u8) -> Step
-    requires { Small mode }
-    ensures value { result ≡ meaning mode byte }
-    ensures small { SmallStep result }
+// The byte that comes next, as it is or by its escape, and the input after it. None at a quote, a bad escape or the end.
+fn read_byte(input: &[u8]) -> Option<(u8, &[u8])>
+    ensures byte { MatchOption result
+        (reading input.now ≡ closing input.now)
+        (λ p. reading input.now ≡ with_byte p.0 (reading p.1.now)) }
+    ensures after { IfSome result (λ p. IsEndOf p.1.now input.now) }
+    ensures shorter { IfSome result (λ p. length p.1.now < length input.now) }
 {
-    match mode {
-        Mode::Opening => if byte == b'"' {
-            Step::More(Mode::Plain)
-        } else {
-            Step::Bad
-        },
-        Mode::Plain => match byte {
-            b'"' => Step::Close,
-            b'\\' => Step::More(Mode::Escape),
-            _ => Step::Byte(byte),
-        },
-        Mode::Escape => match byte {
-            b'"' | b'\\' => Step::Byte(byte),
-            b'x' => Step::More(Mode::High),
-            _ => Step::Bad,
-        },
-        Mode::High => match hex_value(byte) {
-            Some(digit) => Step::More(Mode::Low(digit)),
-            None => Step::Bad,
-        },
-        Mode::Low(high) => match hex_value(byte) {
-            Some(digit) => Step::Byte(high * 16 + digit),
-            None => Step::Bad,
-        },
+    match input {
+        [b'\\', b'x', high, low, rest @ ..] => Some((hex_byte(*high, *low)?, rest)),
+        [b'\\', byte @ (b'"' | b'\\'), rest @ ..] => Some((*byte, rest)),
+        [] | [b'"' | b'\\', ..] => None,
+        [byte, rest @ ..] => Some((*byte, rest)),
     }
 }
 
@@ -61,19 +26,15 @@ fn read_pieces(input: &[u8], out: &mut Vec<u8>) -> Result<Option<usize>, AllocEr
     ensures found { IfOk result (Found input.now out.old.items out.new.items) }
     ensures kept { take (length out.old.items) out.new.items ≡ out.old.items }
 {
-    let mut mode = Mode::Opening;
-    for (i, byte) in input.iter().enumerate() {
-        match take_byte(mode, *byte) {
-            Step::Byte(value) => {
-                out.push(value)?;
-                mode = Mode::Plain;
-            }
-            Step::More(next) => mode = next,
-            Step::Close => return Ok(Some(i + 1)),
-            Step::Bad => return Ok(None),
-        }
+    let Some(mut rest) = input.strip_prefix(b"\"") else {
+        return Ok(None);
+    };
+    while let Some((byte, after)) = read_byte(rest) {
+        out.push(byte)?;
+        rest = after;
     }
-    Ok(None)
+    let closed = rest.strip_prefix(b"\"");
+    Ok(closed.map(|after| input.len() - after.len()))
 }
 
 // Appends the bytes of the quoted text at the start of `input`, and tells how many bytes of input it took.
@@ -84,9 +45,8 @@ pub fn read_quoted(input: &[u8], out: &mut Vec<u8>) -> Result<Option<usize>, All
 {
     let before = out.len();
     let read = read_pieces(input, out);
-    if let Ok(Some(taken)) = read {
-        return Ok(Some(taken));
+    if !matches!(read, Ok(Some(_))) {
+        out.truncate(before);
     }
-    out.truncate(before);
     read
 }

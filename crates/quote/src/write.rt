@@ -1,7 +1,7 @@
 ghost use Rattle.std.specs.Prelude.{◌≡◌, ◌++◌, length, take, is_ok, if◌then◌else◌, OnOk};
 ghost use Rattle.quote.specs.Quotes.{escaped, quoted, ReadsBack};
 
-use super::hex::hex_digit;
+use super::hex::hex_digits;
 use std::alloc::AllocError;
 
 fn write_byte(out: &mut Vec<u8>, byte: u8) -> Result<(), AllocError>
@@ -10,7 +10,10 @@ fn write_byte(out: &mut Vec<u8>, byte: u8) -> Result<(), AllocError>
     match byte {
         b'"' | b'\\' => out.extend_from_slice(&[b'\\', byte]),
         b' '..=b'~' => out.extend_from_slice(&[byte]),
-        _ => out.extend_from_slice(&[b'\\', b'x', hex_digit(byte / 16), hex_digit(byte % 16)]),
+        _ => {
+            let [high, low] = hex_digits(byte);
+            out.extend_from_slice(&[b'\\', b'x', high, low])
+        }
     }
 }
 
@@ -33,11 +36,9 @@ pub fn write_quoted(out: &mut Vec<u8>, bytes: &[u8]) -> Result<(), AllocError>
     ensures inverse { ReadsBack bytes.now }
 {
     let before = out.len();
-    match write_pieces(out, bytes) {
-        Ok(()) => Ok(()),
-        Err(fault) => {
-            out.truncate(before);
-            Err(fault)
-        }
+    let written = write_pieces(out, bytes);
+    if written.is_err() {
+        out.truncate(before);
     }
+    written
 }
