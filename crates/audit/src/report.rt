@@ -10,53 +10,50 @@ fn print_last_column(
     printer: &mut Printer<'_>,
     last_column_id: Option<i32>,
 ) -> Result<(), AllocError> {
-    printer.words(" last-column-id ")?;
     match last_column_id {
-        Some(id) => printer.number(i64::from(id)),
-        None => printer.words("none"),
+        Some(id) => write!(printer, " last-column-id {id}"),
+        None => printer.words(" last-column-id none"),
     }
 }
 
 // A recorded change, as the statement that makes it.
 fn print_change(
     printer: &mut Printer<'_>,
-    change: ViewUpdate<'_, SealedSchema>,
+    change: &ViewUpdate<'_, SealedSchema>,
 ) -> Result<(), AllocError> {
     match change {
         ViewUpdate::AssignUuid { uuid } => {
             printer.words("assign-uuid ")?;
-            printer.uuid(uuid)?;
+            printer.uuid(*uuid)
         }
         ViewUpdate::SetLocation { location } => {
             printer.words("set-location ")?;
-            printer.text(location)?;
+            printer.text(*location)
         }
         ViewUpdate::AddSchema {
             schema,
             last_column_id,
         } => {
             printer.words("add-schema ")?;
-            printer.schema(&schema)?;
-            print_last_column(printer, last_column_id)?;
+            printer.schema(schema)?;
+            print_last_column(printer, *last_column_id)
         }
         ViewUpdate::AddViewVersion { view_version } => {
             printer.words("add-version ")?;
-            printer.version(&view_version)?;
+            printer.version(view_version)
         }
         ViewUpdate::SetCurrentViewVersion { view_version_id } => {
-            printer.words("set-current ")?;
-            printer.number(i64::from(view_version_id))?;
+            write!(printer, "set-current {view_version_id}")
         }
         ViewUpdate::SetProperties { updates } => {
             printer.words("set-properties ")?;
-            printer.list(updates)?;
+            printer.list(updates)
         }
         ViewUpdate::RemoveProperties { removals } => {
             printer.words("remove-properties ")?;
-            printer.list(removals)?;
+            printer.list(removals)
         }
     }
-    printer.words("\n")
 }
 
 // The recorded changes, one to a line.
@@ -65,8 +62,9 @@ fn print_changes(
     changes: &[ViewUpdate<'_, SealedSchema>],
 ) -> Result<(), AllocError> {
     printer.words("# changes\n")?;
-    for change in changes.iter().copied() {
+    for change in changes {
         print_change(printer, change)?;
+        printer.words("\n")?;
     }
     Ok(())
 }
@@ -80,8 +78,8 @@ fn print_lists(
         printer.schema(schema)?;
         printer.words("\n")?;
     }
-    for version in metadata.versions.iter().copied() {
-        printer.version(&version)?;
+    for version in metadata.versions {
+        printer.version(version)?;
         printer.words("\n")?;
     }
     for entry in metadata.version_log {
@@ -100,15 +98,15 @@ fn print_metadata(
     printer: &mut Printer<'_>,
     metadata: &ViewMetadata<'_, '_, SealedSchema>,
 ) -> Result<(), AllocError> {
-    printer.words("# metadata\nopen ")?;
-    printer.number(i64::from(metadata.format_version))?;
-    printer.words(" uuid ")?;
+    write!(
+        printer,
+        "# metadata\nopen {} uuid ",
+        metadata.format_version
+    )?;
     printer.uuid(metadata.uuid)?;
     printer.words(" location ")?;
     printer.text(metadata.location)?;
-    printer.words(" current ")?;
-    printer.number(i64::from(metadata.current_version_id))?;
-    printer.words("\n")?;
+    writeln!(printer, " current {}", metadata.current_version_id)?;
     print_lists(printer, metadata)
 }
 
@@ -117,7 +115,6 @@ pub fn print_built(
     printer: &mut Printer<'_>,
     built: &Built<'_, '_, '_, SealedSchema>,
 ) -> Result<(), AllocError> {
-    let metadata = built.metadata();
-    print_metadata(printer, &metadata)?;
+    print_metadata(printer, &built.metadata())?;
     print_changes(printer, built.changes())
 }

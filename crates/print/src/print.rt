@@ -1,19 +1,20 @@
-ghost use Rattle.std.specs.Prelude.{◌≡◌, ◌++◌, is_ok, if◌then◌else◌};
+ghost use Rattle.std.specs.Prelude.{◌≡◌, ◌++◌, is_ok, if◌then◌else◌, OnOk, OnErr};
+ghost use Rattle.std.specs.Fmt.{AppendsText};
 ghost use Rattle.quote.specs.Quotes.{quoted};
 ghost use Rattle.text.specs.Meaning.{bytes_of};
 
-use text::property::Property;
 use quote::hex::write_hex;
 use quote::write::write_quoted;
 use schema::sealed::SealedSchema;
 use std::alloc::{AllocError, Global};
+use std::fmt::Display;
+use text::property::Property;
 use text::text::Text;
 use version::view_version::{SqlViewRepresentation, ViewVersion, ViewVersionLog};
 
 // What has been printed, of records over a text block.
 #[derive(Drop)]
 pub struct Printer<'b> {
-    heap: Global,
     block: &'b [u8],
     out: Vec<u8>,
 }
@@ -26,7 +27,6 @@ pub trait Printed: Copy {
 impl<'b> Printer<'b> {
     pub fn new(heap: Global, block: &'b [u8]) -> Printer<'b> {
         Printer {
-            heap,
             block,
             out: Vec::new(heap),
         }
@@ -46,6 +46,16 @@ impl<'b> Printer<'b> {
         self.out.extend_from_slice(words.as_bytes())
     }
 
+    // What `write!` calls.
+    pub fn write_fmt<D: Display + Drop>(&mut self, shown: D) -> Result<(), AllocError>
+        ensures out { OnOk result (AppendsText self.old.out.items self.new.out.items (D.output shown)) }
+        ensures same { OnErr result (self.new.out.items ≡ self.old.out.items) }
+        ensures block { self.new.block ≡ self.old.block }
+    {
+        let text = format!(in *self.out.allocator(); "{shown}")?;
+        self.words(text.as_str())
+    }
+
     // A text, in quotes.
     pub fn text(&mut self, text: Text) -> Result<(), AllocError>
         ensures out { self.new.out.items ≡ (if is_ok result then self.old.out.items ++ quoted (bytes_of self.old.block.now text) else self.old.out.items) }
@@ -53,23 +63,6 @@ impl<'b> Printer<'b> {
     {
         let bytes = text.bytes(self.block);
         write_quoted(&mut self.out, bytes)
-    }
-
-    pub fn number(&mut self, number: i64) -> Result<(), AllocError> {
-        let digits = format!(in self.heap; "{number}")?;
-        self.words(digits.as_str())
-    }
-
-    // A count or a position.
-    pub fn place(&mut self, place: usize) -> Result<(), AllocError> {
-        let digits = format!(in self.heap; "{place}")?;
-        self.words(digits.as_str())
-    }
-
-    // The letter of a part.
-    pub fn letter(&mut self, letter: char) -> Result<(), AllocError> {
-        let text = format!(in self.heap; "{letter}")?;
-        self.words(text.as_str())
     }
 
     pub fn uuid(&mut self, uuid: [u8; 16]) -> Result<(), AllocError> {
@@ -97,27 +90,21 @@ impl<'b> Printer<'b> {
 
     // schema ID highest-field-id N text TEXT
     pub fn schema(&mut self, schema: &SealedSchema) -> Result<(), AllocError> {
-        self.words("schema ")?;
-        self.number(i64::from(schema.schema_id))?;
-        self.words(" highest-field-id ")?;
-        self.number(i64::from(schema.highest_field_id))?;
-        self.words(" text ")?;
+        write!(
+            self,
+            "schema {} highest-field-id {} text ",
+            schema.schema_id, schema.highest_field_id
+        )?;
         self.text(schema.text)
     }
 
-    // version ID schema ID time MS ..
+    // version ID schema ID time MS summary [ TEXT = TEXT .. ] sql [ TEXT dialect TEXT .. ] catalog TEXT namespace [ TEXT .. ]
     pub fn version(&mut self, version: &ViewVersion<'_>) -> Result<(), AllocError> {
-        self.words("version ")?;
-        self.number(i64::from(version.version_id))?;
-        self.words(" schema ")?;
-        self.number(i64::from(version.schema_id))?;
-        self.words(" time ")?;
-        self.number(version.timestamp_ms)?;
-        self.version_lists(version)
-    }
-
-    // .. summary [ TEXT = TEXT .. ] sql [ TEXT dialect TEXT .. ] catalog TEXT namespace [ TEXT .. ]
-    fn version_lists(&mut self, version: &ViewVersion<'_>) -> Result<(), AllocError> {
+        write!(
+            self,
+            "version {} schema {} time {}",
+            version.version_id, version.schema_id, version.timestamp_ms
+        )?;
         self.words(" summary ")?;
         self.list(version.summary)?;
         self.words(" sql ")?;
@@ -133,16 +120,13 @@ impl<'b> Printer<'b> {
 
     // log ID at MS
     pub fn log_entry(&mut self, entry: &ViewVersionLog) -> Result<(), AllocError> {
-        self.words("log ")?;
-        self.number(i64::from(entry.version_id))?;
-        self.words(" at ")?;
-        self.number(entry.timestamp_ms)
+        write!(self, "log {} at {}", entry.version_id, entry.timestamp_ms)
     }
 
     // property TEXT = TEXT
     pub fn property(&mut self, property: &Property) -> Result<(), AllocError> {
         self.words("property ")?;
-        self.two(property.key, " = ", property.value)
+        property.print(self)
     }
 }
 
