@@ -204,16 +204,14 @@ fn read_line(line: &[u8], block: &mut Vec<u8>) -> Result<Option<Statement>, Read
 
 // Reads a script, up to the first line that cannot be read.
 pub fn read_script(heap: Global, input: &[u8]) -> Result<Script, AllocError> {
-    let mut block = Vec::new(heap);
-    let mut statements = Vec::new(heap);
-    let mut unread = None;
+    let mut script = Script::new(heap);
     for (number, line) in (1..).zip(input.split(|byte| *byte == b'\n')) {
-        match read_line(line, &mut block) {
+        match read_line(line, &mut script.block) {
             Ok(None) => {}
-            Ok(Some(statement)) => statements.push(Line { number, statement })?,
+            Ok(Some(statement)) => script.statements.push(Line { number, statement })?,
             Err(ReadFault::NoMemory) => return Err(AllocError),
             Err(ReadFault::Expected(expected)) => {
-                unread = Some(Unread {
+                script.unread = Some(Unread {
                     line: number,
                     expected,
                 });
@@ -221,9 +219,5 @@ pub fn read_script(heap: Global, input: &[u8]) -> Result<Script, AllocError> {
             }
         }
     }
-    Ok(Script {
-        block,
-        statements,
-        unread,
-    })
+    Ok(script)
 }

@@ -1,7 +1,9 @@
-ghost use Rattle.std.specs.Prelude.{◌≡◌};
+ghost use Rattle.std.specs.Prelude.{◌≡◌, [], None};
+ghost use Rattle.script.specs.Words.{first_word};
 
 use cursor::fault::Expected;
 use schema::sealed::SealedSchema;
+use std::alloc::Global;
 use text::property::Property;
 use text::text::Text;
 use version::view_version::{SqlViewRepresentation, ViewVersion};
@@ -70,6 +72,21 @@ pub struct Script {
     pub unread: Option<Unread>,
 }
 
+impl Script {
+    // Nothing read yet.
+    pub fn new(heap: Global) -> Script
+        ensures block { result.block.items ≡ [] }
+        ensures statements { result.statements.items ≡ [] }
+        ensures unread { result.unread ≡ None }
+    {
+        Script {
+            block: Vec::new(heap),
+            statements: Vec::new(heap),
+            unread: None,
+        }
+    }
+}
+
 impl VersionParts {
     // The version, its lists lent from the parts.
     pub fn version(&self) -> ViewVersion<'_>
@@ -95,7 +112,9 @@ impl VersionParts {
 
 impl Statement {
     // The word that the statement begins with.
-    pub fn name(&self) -> &'static str {
+    pub fn name(&self) -> &'static str
+        ensures { result.now ≡ first_word self.now }
+    {
         match self {
             Statement::Begin { .. } => "begin",
             Statement::SetLocation { .. } => "set-location",
