@@ -5,11 +5,14 @@ use view::build::Built;
 use view::view_metadata::ViewMetadata;
 use view::view_update::ViewUpdate;
 
-// last-column-id N, or none for a schema that was reused
-fn print_last_column(
+// A recorded schema, with its last-column-id, or none for one that was reused.
+fn print_added_schema(
     printer: &mut Printer<'_>,
+    schema: &SealedSchema,
     last_column_id: Option<i32>,
 ) -> Result<(), AllocError> {
+    printer.words("add-schema ")?;
+    printer.schema(schema)?;
     match last_column_id {
         Some(id) => write!(printer, " last-column-id {id}"),
         None => printer.words(" last-column-id none"),
@@ -33,11 +36,7 @@ fn print_change(
         ViewUpdate::AddSchema {
             schema,
             last_column_id,
-        } => {
-            printer.words("add-schema ")?;
-            printer.schema(schema)?;
-            print_last_column(printer, *last_column_id)
-        }
+        } => print_added_schema(printer, schema, *last_column_id),
         ViewUpdate::AddViewVersion { view_version } => {
             printer.words("add-version ")?;
             printer.version(view_version)
@@ -74,40 +73,22 @@ fn print_lists(
     printer: &mut Printer<'_>,
     metadata: &ViewMetadata<'_, '_, SealedSchema>,
 ) -> Result<(), AllocError> {
-    for schema in metadata.schemas {
-        printer.schema(schema)?;
-        printer.words("\n")?;
-    }
-    for version in metadata.versions {
-        printer.version(version)?;
-        printer.words("\n")?;
-    }
-    for entry in metadata.version_log {
-        printer.log_entry(entry)?;
-        printer.words("\n")?;
-    }
-    for property in metadata.properties {
-        printer.property(property)?;
-        printer.words("\n")?;
-    }
-    Ok(())
+    printer.lines("", metadata.schemas)?;
+    printer.lines("", metadata.versions)?;
+    printer.lines("", metadata.version_log)?;
+    printer.lines("property ", metadata.properties)
 }
 
-// The metadata, as a start that could be opened.
-fn print_metadata(
+// The metadata's own fields, as a start that could be opened.
+fn print_open(
     printer: &mut Printer<'_>,
     metadata: &ViewMetadata<'_, '_, SealedSchema>,
 ) -> Result<(), AllocError> {
-    write!(
-        printer,
-        "# metadata\nopen {} uuid ",
-        metadata.format_version
-    )?;
+    write!(printer, "open {} uuid ", metadata.format_version)?;
     printer.uuid(metadata.uuid)?;
     printer.words(" location ")?;
     printer.text(metadata.location)?;
-    writeln!(printer, " current {}", metadata.current_version_id)?;
-    print_lists(printer, metadata)
+    writeln!(printer, " current {}", metadata.current_version_id)
 }
 
 // The built metadata and the recorded changes.
@@ -115,6 +96,9 @@ pub fn print_built(
     printer: &mut Printer<'_>,
     built: &Built<'_, '_, '_, SealedSchema>,
 ) -> Result<(), AllocError> {
-    print_metadata(printer, &built.metadata())?;
+    let metadata = built.metadata();
+    printer.words("# metadata\n")?;
+    print_open(printer, &metadata)?;
+    print_lists(printer, &metadata)?;
     print_changes(printer, built.changes())
 }

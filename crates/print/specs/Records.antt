@@ -14,6 +14,10 @@ use Rattle.version.specs.declared.view_version.ViewVersionLog.{ViewVersionLog}
 abbrev pub shown_list : {X : Type 0} → (X → List ℕ) → List X → List ℕ
 shown_list item xs = codes "[" ++ flat_map (λ x. codes " " ++ item x) xs ++ codes " ]"
 
+-- the items, one to a line, each after the same words
+abbrev pub shown_lines : {X : Type 0} → List ℕ → (X → List ℕ) → List X → List ℕ
+shown_lines words item xs = flat_map (λ x. words ++ item x ++ codes "\n") xs
+
 -- log ID at MS
 abbrev pub shown_log : ViewVersionLog → List ℕ
 shown_log e = codes "log " ++ signed_decimal e.version_id ++ codes " at " ++ signed_decimal e.timestamp_ms

@@ -1,7 +1,7 @@
 ghost use Rattle.std.specs.Prelude.{◌≡◌, ℕ, List, [], ◌++◌, is_ok, if◌then◌else◌, codes, OnOk, OnErr};
 ghost use Rattle.std.specs.Fmt.{AppendsText};
 ghost use Rattle.print.specs.Printing.{Prints};
-ghost use Rattle.print.specs.Records.{shown_list, shown_log, shown_uuid, shown_text, shown_pair, shown_representation, shown_catalog, shown_schema, shown_lists, shown_version};
+ghost use Rattle.print.specs.Records.{shown_list, shown_lines, shown_log, shown_uuid, shown_text, shown_pair, shown_representation, shown_catalog, shown_schema, shown_lists, shown_version};
 ghost use Rattle.quote.specs.Quotes.{quoted};
 ghost use Rattle.text.specs.Meaning.{bytes_of};
 
@@ -103,6 +103,18 @@ impl<'b> Printer<'b> {
         self.words(" ]")
     }
 
+    // Items, one to a line, each after the same words.
+    pub fn lines<T: Printed>(&mut self, words: &str, items: &[T]) -> Result<(), AllocError>
+        ensures { Prints self.old result self.new (shown_lines words.now (T.printed self.old.block.now) items.now) }
+    {
+        for item in items {
+            self.words(words)?;
+            item.print(self)?;
+            self.words("\n")?;
+        }
+        Ok(())
+    }
+
     // schema ID highest-field-id N text TEXT
     pub fn schema(&mut self, schema: &SealedSchema) -> Result<(), AllocError>
         ensures { Prints self.old result self.new (shown_schema self.old.block.now schema.now) }
@@ -196,6 +208,30 @@ impl Printed for SqlViewRepresentation {
     }
 }
 
+impl Printed for SealedSchema {
+    ghost printed = { shown_schema };
+
+    fn print(&self, printer: &mut Printer<'_>) -> Result<(), AllocError> {
+        printer.schema(self)
+    }
+}
+
+impl Printed for ViewVersion<'_> {
+    ghost printed = { shown_version };
+
+    fn print(&self, printer: &mut Printer<'_>) -> Result<(), AllocError> {
+        printer.version(self)
+    }
+}
+
+impl Printed for ViewVersionLog {
+    ghost printed = { λ _ entry. shown_log entry };
+
+    fn print(&self, printer: &mut Printer<'_>) -> Result<(), AllocError> {
+        printer.log_entry(self)
+    }
+}
+
 #[cfg(test)]
 mod tests {
     use super::*;
@@ -209,7 +245,17 @@ mod tests {
             place: 1,
             length: 1,
         }])?;
-        assert_eq!(rt; printer.bytes(), b"log -1 at 5 [ \"b\" ]".as_slice());
+        printer.lines(
+            "; ",
+            &[ViewVersionLog {
+                version_id: 1,
+                timestamp_ms: 2,
+            }],
+        )?;
+        assert_eq!(rt;
+            printer.bytes(),
+            b"log -1 at 5 [ \"b\" ]; log 1 at 2\n".as_slice()
+        );
         Ok(())
     }
 }
