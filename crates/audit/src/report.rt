@@ -56,6 +56,7 @@ fn print_change(
 }
 
 // The recorded changes, one to a line.
+// Kept: a change is a type of view and `Printed` a trait of print, so that no `impl` of it can stand here for `lines`.
 fn print_changes(
     printer: &mut Printer<'_>,
     changes: &[ViewUpdate<'_, SealedSchema>],

@@ -72,6 +72,7 @@ fn skip_rest(lines: &[Line], printer: &mut Printer<'_>) -> Result<(), AllocError
 }
 
 // What the tables hold before they are lent.
+// Kept: arrays and not Vecs, since the library takes tables of fixed sizes.
 const NO_TEXT: Text = Text {
     place: 0,
     length: 0,

@@ -65,6 +65,7 @@ pub struct Unread {
 }
 
 // A script that was read: its statements, up to the first line that could not be read, and the block of the texts that they name.
+// Kept: the texts share one block, since the library reads a text as a place in a block that is lent to it.
 #[derive(Drop)]
 pub struct Script {
     pub block: Vec<u8>,
