@@ -1,77 +1,44 @@
 use fault::fault::Fault;
 use print::print::Printer;
 use std::alloc::AllocError;
+use std::fmt;
 
-// What a statement did.
+// What a statement that was not refused did.
 #[derive(Clone, Copy)]
-pub enum Outcome {
+pub enum Done {
     Accepted,
     Schema(i32),
     Version(i32),
-    Refused(Fault),
     NotRun,
 }
 
-impl Outcome {
-    // Of a call that answers nothing.
-    pub fn of_call(answer: Result<(), Fault>) -> Outcome {
-        match answer {
-            Ok(()) => Outcome::Accepted,
-            Err(fault) => Outcome::Refused(fault),
-        }
-    }
-
-    // Of an add of a schema.
-    pub fn of_schema(answer: Result<i32, Fault>) -> Outcome {
-        match answer {
-            Ok(id) => Outcome::Schema(id),
-            Err(fault) => Outcome::Refused(fault),
-        }
-    }
-
-    // Of an add of a version.
-    pub fn of_version(answer: Result<i32, Fault>) -> Outcome {
-        match answer {
-            Ok(id) => Outcome::Version(id),
-            Err(fault) => Outcome::Refused(fault),
+impl fmt::Display for Done {
+    fn fmt<W: fmt::Write>(&self, f: &mut fmt::Formatter<W>) -> fmt::Result {
+        match self {
+            Done::Accepted => write!(f, "accepted"),
+            Done::Schema(id) => write!(f, "schema {id}"),
+            Done::Version(id) => write!(f, "version {id}"),
+            Done::NotRun => write!(f, "not run"),
         }
     }
 }
 
-// refused NUMBER LETTER POSITION
-fn print_refusal(printer: &mut Printer<'_>, fault: Fault) -> Result<(), AllocError> {
-    printer.words("refused ")?;
-    printer.number(i64::from(fault.refusal.number()))?;
-    printer.words(" ")?;
-    printer.letter(fault.part.letter())?;
-    printer.words(" ")?;
-    printer.place(fault.position)
-}
-
-// # line N: STATEMENT: what it did
+// # line N: STATEMENT: what it did, or refused NUMBER LETTER POSITION
 pub fn print_outcome(
     printer: &mut Printer<'_>,
     number: usize,
     statement: &str,
-    outcome: Outcome,
+    outcome: Result<Done, Fault>,
 ) -> Result<(), AllocError> {
-    printer.words("# line ")?;
-    printer.place(number)?;
-    printer.words(": ")?;
-    printer.words(statement)?;
-    printer.words(": ")?;
+    write!(printer, "# line {number}: {statement}: ")?;
     match outcome {
-        Outcome::Accepted => printer.words("accepted")?,
-        Outcome::Schema(id) => {
-            printer.words("schema ")?;
-            printer.number(i64::from(id))?;
-        }
-        Outcome::Version(id) => {
-            printer.words("version ")?;
-            printer.number(i64::from(id))?;
-        }
-        Outcome::Refused(fault) => print_refusal(printer, fault)?,
-        Outcome::NotRun => printer.words("not run")?,
+        Ok(done) => writeln!(printer, "{done}"),
+        Err(fault) => writeln!(
+            printer,
+            "refused {} {} {}",
+            fault.refusal.number(),
+            fault.part.letter(),
+            fault.position
+        ),
     }
-    printer.words("\n")
 }

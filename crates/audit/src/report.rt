@@ -5,68 +5,66 @@ use view::build::Built;
 use view::view_metadata::ViewMetadata;
 use view::view_update::ViewUpdate;
 
-// last-column-id N, or none for a schema that was reused
-fn print_last_column(
+// A recorded schema, with its last-column-id, or none for one that was reused.
+fn print_added_schema(
     printer: &mut Printer<'_>,
+    schema: &SealedSchema,
     last_column_id: Option<i32>,
 ) -> Result<(), AllocError> {
-    printer.words(" last-column-id ")?;
+    printer.words("add-schema ")?;
+    printer.schema(schema)?;
     match last_column_id {
-        Some(id) => printer.number(i64::from(id)),
-        None => printer.words("none"),
+        Some(id) => write!(printer, " last-column-id {id}"),
+        None => printer.words(" last-column-id none"),
     }
 }
 
 // A recorded change, as the statement that makes it.
 fn print_change(
     printer: &mut Printer<'_>,
-    change: ViewUpdate<'_, SealedSchema>,
+    change: &ViewUpdate<'_, SealedSchema>,
 ) -> Result<(), AllocError> {
     match change {
         ViewUpdate::AssignUuid { uuid } => {
             printer.words("assign-uuid ")?;
-            printer.uuid(uuid)?;
+            printer.uuid(*uuid)
         }
         ViewUpdate::SetLocation { location } => {
             printer.words("set-location ")?;
-            printer.text(location)?;
+            printer.text(*location)
         }
         ViewUpdate::AddSchema {
             schema,
             last_column_id,
-        } => {
-            printer.words("add-schema ")?;
-            printer.schema(&schema)?;
-            print_last_column(printer, last_column_id)?;
-        }
+        } => print_added_schema(printer, schema, *last_column_id),
         ViewUpdate::AddViewVersion { view_version } => {
             printer.words("add-version ")?;
-            printer.version(&view_version)?;
+            printer.version(view_version)
         }
         ViewUpdate::SetCurrentViewVersion { view_version_id } => {
-            printer.words("set-current ")?;
-            printer.number(i64::from(view_version_id))?;
+            write!(printer, "set-current {view_version_id}")
         }
         ViewUpdate::SetProperties { updates } => {
             printer.words("set-properties ")?;
-            printer.list(updates)?;
+            printer.list(updates)
         }
         ViewUpdate::RemoveProperties { removals } => {
             printer.words("remove-properties ")?;
-            printer.list(removals)?;
+            printer.list(removals)
         }
     }
-    printer.words("\n")
 }
 
 // The recorded changes, one to a line.
+// Kept: a change is a type of view and `Printed` a trait of print, so that no `impl` of it can stand here for `lines`.
 fn print_changes(
     printer: &mut Printer<'_>,
     changes: &[ViewUpdate<'_, SealedSchema>],
 ) -> Result<(), AllocError> {
     printer.words("# changes\n")?;
-    for change in changes.iter().copied() {
+    for change in changes {
         print_change(printer, change)?;
+        printer.words("\n")?;
     }
     Ok(())
 }
@@ -76,40 +74,22 @@ fn print_lists(
     printer: &mut Printer<'_>,
     metadata: &ViewMetadata<'_, '_, SealedSchema>,
 ) -> Result<(), AllocError> {
-    for schema in metadata.schemas {
-        printer.schema(schema)?;
-        printer.words("\n")?;
-    }
-    for version in metadata.versions.iter().copied() {
-        printer.version(&version)?;
-        printer.words("\n")?;
-    }
-    for entry in metadata.version_log {
-        printer.log_entry(entry)?;
-        printer.words("\n")?;
-    }
-    for property in metadata.properties {
-        printer.property(property)?;
-        printer.words("\n")?;
-    }
-    Ok(())
+    printer.lines("", metadata.schemas)?;
+    printer.lines("", metadata.versions)?;
+    printer.lines("", metadata.version_log)?;
+    printer.lines("property ", metadata.properties)
 }
 
-// The metadata, as a start that could be opened.
-fn print_metadata(
+// The metadata's own fields, as a start that could be opened.
+fn print_open(
     printer: &mut Printer<'_>,
     metadata: &ViewMetadata<'_, '_, SealedSchema>,
 ) -> Result<(), AllocError> {
-    printer.words("# metadata\nopen ")?;
-    printer.number(i64::from(metadata.format_version))?;
-    printer.words(" uuid ")?;
+    write!(printer, "open {} uuid ", metadata.format_version)?;
     printer.uuid(metadata.uuid)?;
     printer.words(" location ")?;
     printer.text(metadata.location)?;
-    printer.words(" current ")?;
-    printer.number(i64::from(metadata.current_version_id))?;
-    printer.words("\n")?;
-    print_lists(printer, metadata)
+    writeln!(printer, " current {}", metadata.current_version_id)
 }
 
 // The built metadata and the recorded changes.
@@ -118,6 +98,8 @@ pub fn print_built(
     built: &Built<'_, '_, '_, SealedSchema>,
 ) -> Result<(), AllocError> {
     let metadata = built.metadata();
-    print_metadata(printer, &metadata)?;
+    printer.words("# metadata\n")?;
+    print_open(printer, &metadata)?;
+    print_lists(printer, &metadata)?;
     print_changes(printer, built.changes())
 }

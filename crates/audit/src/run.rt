@@ -1,7 +1,6 @@
-ghost use Rattle.std.specs.Prelude.{◌≤◌, length};
-
-use super::outcome::{Outcome, print_outcome};
+use super::outcome::{Done, print_outcome};
 use super::report::print_built;
+use fault::fault::Fault;
 use print::print::Printer;
 use schema::sealed::SealedSchema;
 use script::read::read_script;
@@ -10,81 +9,56 @@ use std::alloc::{AllocError, Global};
 use text::property::Property;
 use text::text::Text;
 use version::view_version::{ViewVersion, ViewVersionLog};
-use view::begin::{Beginning, begin};
+use view::begin::{
+    Beginning, MAX_CHANGES, MAX_LOG_ENTRIES, MAX_PROPERTIES, MAX_SCHEMAS, MAX_VERSIONS, begin,
+};
 use view::view_metadata_builder::ViewMetadataBuilder;
 use view::view_update::ViewUpdate;
 
-// The name of a statement, and what it does to the builder.
-fn run_edit<'s>(
-    builder: &mut ViewMetadataBuilder<'s, '_, 's, SealedSchema>,
-    statement: Statement,
-    script: &'s Script,
-) -> (&'static str, Outcome) {
+// The builder of a script's view: its texts and lists are the script's.
+type Builder<'s, 'a> = ViewMetadataBuilder<'s, 'a, 's, SealedSchema>;
+
+// What a statement does to the builder.
+fn run_edit<'s>(builder: &mut Builder<'s, '_>, statement: &'s Statement) -> Result<Done, Fault> {
     match statement {
-        Statement::SetLocation { location } => (
-            "set-location",
-            Outcome::of_call(builder.set_location(location)),
-        ),
-        Statement::AddSchema { schema } => (
-            "add-schema",
-            Outcome::of_schema(builder.add_schema(schema)),
-        ),
-        Statement::AddVersion { version } => {
-            let version = version.version(script);
-            (
-                "add-version",
-                Outcome::of_version(builder.add_version(version)),
-            )
+        Statement::SetLocation { location } => builder.set_location(*location)?,
+        Statement::AddSchema { schema } => {
+            return Ok(Done::Schema(builder.add_schema(*schema)?));
         }
-        Statement::SetCurrent { version_id, clock } => (
-            "set-current",
-            Outcome::of_call(builder.set_current_version_id(version_id, clock)),
-        ),
+        Statement::AddVersion { version } => {
+            return Ok(Done::Version(builder.add_version(version.version())?));
+        }
+        Statement::SetCurrent { version_id, clock } => {
+            builder.set_current_version_id(*version_id, *clock)?;
+        }
         Statement::SetCurrentVersion {
             schema,
             version,
             clock,
-        } => {
-            let version = version.version(script);
-            (
-                "set-current-version",
-                Outcome::of_call(builder.set_current_version(schema, version, clock)),
-            )
-        }
-        Statement::SetProperties { updates } => {
-            let updates = updates.part(script.properties.as_slice());
-            (
-                "set-properties",
-                Outcome::of_call(builder.set_properties(updates)),
-            )
-        }
-        Statement::Begin { .. } => ("begin", Outcome::NotRun),
-        Statement::Build => ("build", Outcome::NotRun),
+        } => builder.set_current_version(*schema, version.version(), *clock)?,
+        Statement::SetProperties { updates } => builder.set_properties(updates.as_slice())?,
+        Statement::Begin { .. } | Statement::Build => return Ok(Done::NotRun),
     }
+    Ok(Done::Accepted)
 }
 
-// How many lines stand before the first build.
-fn before_build(lines: &[Line]) -> usize
-    ensures { result ≤ length lines.now }
-{
-    for (i, line) in lines.iter().enumerate() {
-        if let Statement::Build = line.statement {
-            return i;
-        }
-    }
-    lines.len()
+// The lines before the first build, and those from it on.
+fn split_at_build(lines: &[Line]) -> (&[Line], &[Line]) {
+    let build = lines
+        .iter()
+        .position(|line| matches!(line.statement, Statement::Build));
+    lines.split_at(build.unwrap_or(lines.len()))
 }
 
 // Runs the statements before the first build.
 fn run_edits<'s>(
-    builder: &mut ViewMetadataBuilder<'s, '_, 's, SealedSchema>,
-    lines: &[Line],
-    script: &'s Script,
+    builder: &mut Builder<'s, '_>,
+    lines: &'s [Line],
     printer: &mut Printer<'_>,
 ) -> Result<(), AllocError> {
     for line in lines {
-        let (name, outcome) = run_edit(builder, line.statement, script);
-        print_outcome(printer, line.number, name, outcome)?;
+        let outcome = run_edit(builder, &line.statement);
+        print_outcome(printer, line.number, line.statement.name(), outcome)?;
     }
     Ok(())
 }
@@ -92,109 +66,98 @@ fn run_edits<'s>(
 // Says of lines that they are not run.
 fn skip_rest(lines: &[Line], printer: &mut Printer<'_>) -> Result<(), AllocError> {
     for line in lines {
-        print_outcome(printer, line.number, "after the build", Outcome::NotRun)?;
+        print_outcome(printer, line.number, "after the build", Ok(Done::NotRun))?;
     }
     Ok(())
 }
 
-// Runs the statements over lent tables, up to the first build, and prints what is built.
-fn run_lines<'s, 'a>(
-    beginning: Beginning<'s>,
-    schemas: &'a mut [SealedSchema; 64],
-    versions: &'a mut [ViewVersion<'s>; 64],
-    version_log: &'a mut [ViewVersionLog; 256],
-    properties: &'a mut [Property; 64],
-    changes: &'a mut [ViewUpdate<'s, SealedSchema>; 128],
-    lines: &[Line],
-    script: &'s Script,
-    printer: &mut Printer<'_>,
-) -> Result<(), AllocError> {
-    let mut builder = beginning.lend(schemas, versions, version_log, properties, changes);
-    let edits = before_build(lines);
-    run_edits(&mut builder, &lines[0..edits], script, printer)?;
-    if edits == lines.len() {
-        return Ok(());
-    }
-    let number = lines[edits].number;
-    match builder.build() {
-        Ok(built) => {
-            print_outcome(printer, number, "build", Outcome::Accepted)?;
-            skip_rest(&lines[edits + 1..], printer)?;
-            print_built(printer, &built)
-        }
-        Err(refused) => {
-            print_outcome(printer, number, "build", Outcome::Refused(refused.fault))?;
-            skip_rest(&lines[edits + 1..], printer)
-        }
-    }
-}
-
-// A text of no bytes.
+// What the tables hold before they are lent.
+// Kept: arrays and not Vecs, since the library takes tables of fixed sizes.
 const NO_TEXT: Text = Text {
     place: 0,
     length: 0,
 };
 
-// Lends the tables, and runs the statements after `begin`.
+const NO_SCHEMA: SealedSchema = SealedSchema {
+    schema_id: 0,
+    text: NO_TEXT,
+    highest_field_id: 0,
+};
+
+const NO_VERSION: ViewVersion<'static> = ViewVersion {
+    version_id: 0,
+    schema_id: 0,
+    timestamp_ms: 0,
+    summary: &[],
+    representations: &[],
+    default_catalog: None,
+    default_namespace: &[],
+};
+
+const NO_ENTRY: ViewVersionLog = ViewVersionLog {
+    version_id: 0,
+    timestamp_ms: 0,
+};
+
+const NO_PROPERTY: Property = Property {
+    key: NO_TEXT,
+    value: NO_TEXT,
+};
+
+const NO_CHANGE: ViewUpdate<'static, SealedSchema> = ViewUpdate::SetCurrentViewVersion {
+    view_version_id: 0,
+};
+
+// Lends the tables, runs the statements after `begin` up to the first build, and prints what is built.
 fn run_begun<'s>(
     beginning: Beginning<'s>,
-    lines: &[Line],
-    script: &'s Script,
+    lines: &'s [Line],
     printer: &mut Printer<'_>,
 ) -> Result<(), AllocError> {
-    let mut schemas = [SealedSchema {
-        schema_id: 0,
-        text: NO_TEXT,
-        highest_field_id: 0,
-    }; 64];
-    let mut versions = [ViewVersion {
-        version_id: 0,
-        schema_id: 0,
-        timestamp_ms: 0,
-        summary: &[],
-        representations: &[],
-        default_catalog: None,
-        default_namespace: &[],
-    }; 64];
-    let mut version_log = [ViewVersionLog {
-        version_id: 0,
-        timestamp_ms: 0,
-    }; 256];
-    let mut properties = [Property {
-        key: NO_TEXT,
-        value: NO_TEXT,
-    }; 64];
-    let mut changes = [ViewUpdate::SetCurrentViewVersion { view_version_id: 0 }; 128];
-    run_lines(
-        beginning,
+    let mut schemas = [NO_SCHEMA; MAX_SCHEMAS];
+    let mut versions = [NO_VERSION; MAX_VERSIONS];
+    let mut version_log = [NO_ENTRY; MAX_LOG_ENTRIES];
+    let mut properties = [NO_PROPERTY; MAX_PROPERTIES];
+    let mut changes = [NO_CHANGE; MAX_CHANGES];
+    let mut builder = beginning.lend(
         &mut schemas,
         &mut versions,
         &mut version_log,
         &mut properties,
         &mut changes,
-        lines,
-        script,
-        printer,
-    )
+    );
+    let (edits, rest) = split_at_build(lines);
+    run_edits(&mut builder, edits, printer)?;
+    let [build, after @ ..] = rest else {
+        return Ok(());
+    };
+    match builder.build() {
+        Ok(built) => {
+            print_outcome(printer, build.number, "build", Ok(Done::Accepted))?;
+            skip_rest(after, printer)?;
+            print_built(printer, &built)
+        }
+        Err(refused) => {
+            print_outcome(printer, build.number, "build", Err(refused.fault))?;
+            skip_rest(after, printer)
+        }
+    }
 }
 
 // Runs a script that was read, whose first statement has to be `begin`.
 fn run_script(script: &Script, printer: &mut Printer<'_>) -> Result<(), AllocError> {
-    let lines = script.statements.as_slice();
-    let [first, rest @ ..] = lines else {
+    let [first, rest @ ..] = script.statements.as_slice() else {
         return Ok(());
     };
     let Statement::Begin { format, uuid } = first.statement else {
-        printer.words("# line ")?;
-        printer.place(first.number)?;
-        return printer.words(": expected begin\n");
+        return writeln!(printer, "# line {}: expected begin", first.number);
     };
     match begin(format, uuid, script.block.as_slice()) {
         Ok(beginning) => {
-            print_outcome(printer, first.number, "begin", Outcome::Accepted)?;
-            run_begun(beginning, rest, script, printer)
+            print_outcome(printer, first.number, "begin", Ok(Done::Accepted))?;
+            run_begun(beginning, rest, printer)
         }
-        Err(fault) => print_outcome(printer, first.number, "begin", Outcome::Refused(fault)),
+        Err(fault) => print_outcome(printer, first.number, "begin", Err(fault)),
     }
 }
 
@@ -202,13 +165,12 @@ fn run_script(script: &Script, printer: &mut Printer<'_>) -> Result<(), AllocErr
 fn print_unread(script: &Script, printer: &mut Printer<'_>) -> Result<(), AllocError> {
     match script.unread {
         None => Ok(()),
-        Some(unread) => {
-            printer.words("# line ")?;
-            printer.place(unread.line)?;
-            printer.words(": expected ")?;
-            printer.words(unread.expected.words())?;
-            printer.words("\n")
-        }
+        Some(unread) => writeln!(
+            printer,
+            "# line {}: expected {}",
+            unread.line,
+            unread.expected.words()
+        ),
     }
 }
 

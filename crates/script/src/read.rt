@@ -1,256 +1,224 @@
 ghost use Rattle.std.specs.Prelude.{◌≡◌, ◌+◌, length, IfOk, vec_len};
 
-use super::script::{Line, Script, Span, Statement, Unread, VersionParts};
+use super::script::{Line, Script, Statement, Unread, VersionParts};
 use cursor::cursor::Cursor;
 use cursor::fault::{Expected, ReadFault};
-use text::property::Property;
 use quote::read::read_quoted;
 use schema::sealed::SealedSchema;
 use std::alloc::{AllocError, Global};
+use text::property::Property;
 use text::text::Text;
 use version::view_version::SqlViewRepresentation;
 
-// A text: its bytes go to the end of the block.
-fn read_text(cursor: &mut Cursor<'_>, block: &mut Vec<u8>) -> Result<Text, ReadFault>
-    ensures { IfOk result (λ t. (t.place ≡ vec_len block.old) × (t.place + t.length ≡ vec_len block.new)) }
-{
-    let place = block.len();
-    match read_quoted(cursor.rest(), block)? {
-        Some(taken) => {
-            cursor.advance(taken);
-            Ok(Text {
-                place,
-                length: block.len() - place,
-            })
-        }
-        None => Err(ReadFault::Expected(Expected::Text)),
-    }
-}
-
-// Two texts with a word between them.
-fn read_two(
-    cursor: &mut Cursor<'_>,
-    between: &'static str,
-    block: &mut Vec<u8>,
-) -> Result<(Text, Text), ReadFault> {
-    let first = read_text(cursor, block)?;
-    cursor.expect(between)?;
-    let second = read_text(cursor, block)?;
-    Ok((first, second))
+// A line that is being read, and the block to whose end its texts go.
+#[derive(Drop)]
+struct Reader<'l, 'b> {
+    cursor: Cursor<'l>,
+    block: &'b mut Vec<u8>,
 }
 
 // What stands in a list of the script.
 trait Element: Copy {
-    fn read(cursor: &mut Cursor<'_>, block: &mut Vec<u8>) -> Result<Self, ReadFault>;
+    fn read(reader: &mut Reader<'_, '_>) -> Result<Self, ReadFault>;
 }
 
 impl Element for Text {
-    fn read(cursor: &mut Cursor<'_>, block: &mut Vec<u8>) -> Result<Text, ReadFault> {
-        read_text(cursor, block)
+    fn read(reader: &mut Reader<'_, '_>) -> Result<Text, ReadFault> {
+        reader.text()
     }
 }
 
 impl Element for Property {
-    fn read(cursor: &mut Cursor<'_>, block: &mut Vec<u8>) -> Result<Property, ReadFault> {
-        let (key, value) = read_two(cursor, "=", block)?;
+    fn read(reader: &mut Reader<'_, '_>) -> Result<Property, ReadFault> {
+        let (key, value) = reader.two("=")?;
         Ok(Property { key, value })
     }
 }
 
 impl Element for SqlViewRepresentation {
-    fn read(
-        cursor: &mut Cursor<'_>,
-        block: &mut Vec<u8>,
-    ) -> Result<SqlViewRepresentation, ReadFault> {
-        let (sql, dialect) = read_two(cursor, "dialect", block)?;
+    fn read(reader: &mut Reader<'_, '_>) -> Result<SqlViewRepresentation, ReadFault> {
+        let (sql, dialect) = reader.two("dialect")?;
         Ok(SqlViewRepresentation { sql, dialect })
     }
 }
 
-// A list: its elements go to the end of `held`. It has fewer elements than the line has bytes.
-fn read_list<T: Element>(
-    cursor: &mut Cursor<'_>,
-    block: &mut Vec<u8>,
-    held: &mut Vec<T>,
-) -> Result<Span, ReadFault>
-    ensures { IfOk result (λ s. (s.from ≡ vec_len held.old) × (s.from + s.count ≡ vec_len held.new)) }
-{
-    cursor.expect("[")?;
-    let from = held.len();
-    for count in 0..cursor.length() {
-        if cursor.takes("]") {
-            return Ok(Span { from, count });
-        }
-        let element = T::read(cursor, block)?;
-        held.push(element)?;
+impl<'l, 'b> Reader<'l, 'b> {
+    // A text: its bytes go to the end of the block.
+    fn text(&mut self) -> Result<Text, ReadFault>
+        ensures { IfOk result (λ t. (t.place ≡ vec_len self.old.block.now) × (t.place + t.length ≡ vec_len self.new.block.now)) }
+    {
+        let block = &mut *self.block;
+        let place = block.len();
+        let taken = read_quoted(self.cursor.rest(), block)?;
+        let taken = taken.ok_or(ReadFault::Expected(Expected::Text))?;
+        let length = block.len() - place;
+        self.cursor.advance(taken);
+        Ok(Text { place, length })
     }
-    Err(ReadFault::Expected(Expected::ListEnd))
+
+    // Two texts with a word between them.
+    fn two(&mut self, between: &'static str) -> Result<(Text, Text), ReadFault> {
+        let first = self.text()?;
+        self.cursor.expect(between)?;
+        let second = self.text()?;
+        Ok((first, second))
+    }
+
+    // A list; it has fewer elements than the line has bytes.
+    // Kept: the count ends the loop; with `while` each reader would have to promise that it takes a byte of the line.
+    fn list<T: Element>(&mut self) -> Result<Vec<T>, ReadFault> {
+        self.cursor.expect("[")?;
+        let mut list = Vec::new(*self.block.allocator());
+        let cursor = &mut self.cursor;
+        for _ in 0..cursor.length() {
+            if self.cursor.takes("]") {
+                return Ok(list);
+            }
+            list.push(T::read(self)?)?;
+        }
+        Err(ReadFault::Expected(Expected::ListEnd))
+    }
+
+    // schema ID highest-field-id N text TEXT
+    fn schema(&mut self) -> Result<SealedSchema, ReadFault> {
+        self.cursor.expect("schema")?;
+        let schema_id = self.cursor.id()?;
+        self.cursor.expect("highest-field-id")?;
+        let highest_field_id = self.cursor.id()?;
+        self.cursor.expect("text")?;
+        let text = self.text()?;
+        Ok(SealedSchema {
+            schema_id,
+            text,
+            highest_field_id,
+        })
+    }
+
+    // A text, or the word none.
+    fn catalog(&mut self) -> Result<Option<Text>, ReadFault> {
+        if self.cursor.takes("none") {
+            return Ok(None);
+        }
+        self.text().map(Some).map_err(|fault| match fault {
+            ReadFault::NoMemory => ReadFault::NoMemory,
+            ReadFault::Expected(_) => ReadFault::Expected(Expected::TextOrNone),
+        })
+    }
+
+    // version ID schema ID time MS summary [ TEXT = TEXT .. ] sql [ TEXT dialect TEXT .. ] catalog TEXT namespace [ TEXT .. ]
+    fn version(&mut self) -> Result<VersionParts, ReadFault> {
+        self.cursor.expect("version")?;
+        let version_id = self.cursor.id()?;
+        self.cursor.expect("schema")?;
+        let schema_id = self.cursor.id()?;
+        self.cursor.expect("time")?;
+        let timestamp_ms = self.cursor.time()?;
+        self.cursor.expect("summary")?;
+        let summary = self.list()?;
+        self.cursor.expect("sql")?;
+        let representations = self.list()?;
+        self.cursor.expect("catalog")?;
+        let default_catalog = self.catalog()?;
+        self.cursor.expect("namespace")?;
+        let default_namespace = self.list()?;
+        Ok(VersionParts {
+            version_id,
+            schema_id,
+            timestamp_ms,
+            summary,
+            representations,
+            default_catalog,
+            default_namespace,
+        })
+    }
+
+    // The word at, and the clock.
+    fn clock(&mut self) -> Result<i64, ReadFault> {
+        self.cursor.expect("at")?;
+        self.cursor.time()
+    }
+
+    fn begin(&mut self) -> Result<Statement, ReadFault> {
+        let format = self.cursor.number()?;
+        self.cursor.expect("uuid")?;
+        let uuid = self.cursor.uuid()?;
+        Ok(Statement::Begin { format, uuid })
+    }
+
+    fn set_current(&mut self) -> Result<Statement, ReadFault> {
+        let version_id = self.cursor.id()?;
+        let clock = self.clock()?;
+        Ok(Statement::SetCurrent { version_id, clock })
+    }
+
+    fn set_current_version(&mut self) -> Result<Statement, ReadFault> {
+        let schema = self.schema()?;
+        let version = self.version()?;
+        let clock = self.clock()?;
+        Ok(Statement::SetCurrentVersion {
+            schema,
+            version,
+            clock,
+        })
+    }
+
+    // The statement that the line begins with.
+    fn statement(&mut self) -> Result<Statement, ReadFault> {
+        match self.cursor.keyword() {
+            "begin" => self.begin(),
+            "set-location" => {
+                let location = self.text()?;
+                Ok(Statement::SetLocation { location })
+            }
+            "add-schema" => {
+                let schema = self.schema()?;
+                Ok(Statement::AddSchema { schema })
+            }
+            "add-version" => {
+                let version = self.version()?;
+                Ok(Statement::AddVersion { version })
+            }
+            "set-current" => self.set_current(),
+            "set-current-version" => self.set_current_version(),
+            "set-properties" => {
+                let updates = self.list()?;
+                Ok(Statement::SetProperties { updates })
+            }
+            "build" => Ok(Statement::Build),
+            _ => Err(ReadFault::Expected(Expected::Statement)),
+        }
+    }
 }
 
-// schema ID highest-field-id N text TEXT
-fn read_schema(cursor: &mut Cursor<'_>, block: &mut Vec<u8>) -> Result<SealedSchema, ReadFault> {
-    cursor.expect("schema")?;
-    let schema_id = cursor.id()?;
-    cursor.expect("highest-field-id")?;
-    let highest_field_id = cursor.id()?;
-    cursor.expect("text")?;
-    let text = read_text(cursor, block)?;
-    Ok(SealedSchema {
-        schema_id,
-        text,
-        highest_field_id,
-    })
-}
-
-// A text, or the word none.
-fn read_catalog(cursor: &mut Cursor<'_>, block: &mut Vec<u8>) -> Result<Option<Text>, ReadFault> {
-    if cursor.takes("none") {
+// The statement of a line; none where the line is blank or a comment.
+fn read_line(line: &[u8], block: &mut Vec<u8>) -> Result<Option<Statement>, ReadFault> {
+    let line = line.strip_suffix(b"\r").unwrap_or(line);
+    let mut cursor = Cursor::new(line);
+    if line.starts_with(b"#") || cursor.rest().is_empty() {
         return Ok(None);
     }
-    match read_text(cursor, block) {
-        Ok(text) => Ok(Some(text)),
-        Err(ReadFault::NoMemory) => Err(ReadFault::NoMemory),
-        Err(ReadFault::Expected(_)) => Err(ReadFault::Expected(Expected::TextOrNone)),
-    }
-}
-
-// version ID schema ID time MS summary [ TEXT = TEXT .. ] sql [ TEXT dialect TEXT .. ] catalog TEXT namespace [ TEXT .. ]
-fn read_version(cursor: &mut Cursor<'_>, script: &mut Script) -> Result<VersionParts, ReadFault> {
-    cursor.expect("version")?;
-    let version_id = cursor.id()?;
-    cursor.expect("schema")?;
-    let schema_id = cursor.id()?;
-    cursor.expect("time")?;
-    let timestamp_ms = cursor.time()?;
-    cursor.expect("summary")?;
-    let summary = read_list(cursor, &mut script.block, &mut script.pairs)?;
-    cursor.expect("sql")?;
-    let representations = read_list(cursor, &mut script.block, &mut script.representations)?;
-    cursor.expect("catalog")?;
-    let default_catalog = read_catalog(cursor, &mut script.block)?;
-    cursor.expect("namespace")?;
-    let default_namespace = read_list(cursor, &mut script.block, &mut script.names)?;
-    Ok(VersionParts {
-        version_id,
-        schema_id,
-        timestamp_ms,
-        summary,
-        representations,
-        default_catalog,
-        default_namespace,
-    })
-}
-
-// The word at, and the clock.
-fn read_clock(cursor: &mut Cursor<'_>) -> Result<i64, ReadFault> {
-    cursor.expect("at")?;
-    cursor.time()
-}
-
-fn read_begin(cursor: &mut Cursor<'_>) -> Result<Statement, ReadFault> {
-    let format = cursor.number()?;
-    cursor.expect("uuid")?;
-    let uuid = cursor.uuid()?;
-    Ok(Statement::Begin { format, uuid })
-}
-
-fn read_set_current(cursor: &mut Cursor<'_>) -> Result<Statement, ReadFault> {
-    let version_id = cursor.id()?;
-    let clock = read_clock(cursor)?;
-    Ok(Statement::SetCurrent { version_id, clock })
-}
-
-fn read_set_current_version(
-    cursor: &mut Cursor<'_>,
-    script: &mut Script,
-) -> Result<Statement, ReadFault> {
-    let schema = read_schema(cursor, &mut script.block)?;
-    let version = read_version(cursor, script)?;
-    let clock = read_clock(cursor)?;
-    Ok(Statement::SetCurrentVersion {
-        schema,
-        version,
-        clock,
-    })
-}
-
-// The statement that the line begins with.
-fn read_statement(cursor: &mut Cursor<'_>, script: &mut Script) -> Result<Statement, ReadFault> {
-    match cursor.keyword() {
-        "begin" => read_begin(cursor),
-        "set-location" => {
-            let location = read_text(cursor, &mut script.block)?;
-            Ok(Statement::SetLocation { location })
-        }
-        "add-schema" => {
-            let schema = read_schema(cursor, &mut script.block)?;
-            Ok(Statement::AddSchema { schema })
-        }
-        "add-version" => {
-            let version = read_version(cursor, script)?;
-            Ok(Statement::AddVersion { version })
-        }
-        "set-current" => read_set_current(cursor),
-        "set-current-version" => read_set_current_version(cursor, script),
-        "set-properties" => {
-            let updates = read_list(cursor, &mut script.block, &mut script.properties)?;
-            Ok(Statement::SetProperties { updates })
-        }
-        "build" => Ok(Statement::Build),
-        _ => Err(ReadFault::Expected(Expected::Statement)),
-    }
-}
-
-// The whole line as a statement.
-fn read_whole(line: &[u8], script: &mut Script) -> Result<Statement, ReadFault> {
-    let mut cursor = Cursor::new(line);
-    let statement = read_statement(&mut cursor, script)?;
-    cursor.expect_end()?;
-    Ok(statement)
-}
-
-// The line without a byte 13 at its end.
-fn without_return(line: &[u8]) -> &[u8] {
-    match line {
-        [front @ .., b'\r'] => front,
-        _ => line,
-    }
-}
-
-// Reads a line of a script, unless one before it could not be read.
-fn read_line(number: usize, line: &[u8], script: &mut Script) -> Result<(), AllocError> {
-    let line = without_return(line);
-    if script.unread.is_some() || line.starts_with(b"#") || Cursor::new(line).rest().is_empty() {
-        return Ok(());
-    }
-    match read_whole(line, script) {
-        Ok(statement) => {
-            script.statements.push(Line { number, statement })?;
-            Ok(())
-        }
-        Err(ReadFault::NoMemory) => Err(AllocError),
-        Err(ReadFault::Expected(expected)) => {
-            script.unread = Some(Unread {
-                line: number,
-                expected,
-            });
-            Ok(())
-        }
-    }
+    let mut reader = Reader { cursor, block };
+    let statement = reader.statement()?;
+    reader.cursor.expect_end()?;
+    Ok(Some(statement))
 }
 
 // Reads a script, up to the first line that cannot be read.
 pub fn read_script(heap: Global, input: &[u8]) -> Result<Script, AllocError> {
     let mut script = Script::new(heap);
-    let mut number = 1;
-    let mut start = 0;
-    for (i, byte) in input.iter().enumerate() {
-        if *byte == b'\n' {
-            read_line(number, &input[start..i], &mut script)?;
-            number += 1;
-            start = i + 1;
+    for (number, line) in (1..).zip(input.split(|byte| *byte == b'\n')) {
+        match read_line(line, &mut script.block) {
+            Ok(None) => {}
+            Ok(Some(statement)) => script.statements.push(Line { number, statement })?,
+            Err(ReadFault::NoMemory) => return Err(AllocError),
+            Err(ReadFault::Expected(expected)) => {
+                script.unread = Some(Unread {
+                    line: number,
+                    expected,
+                });
+                break;
+            }
         }
     }
-    read_line(number, &input[start..], &mut script)?;
     Ok(script)
 }

@@ -1,32 +1,26 @@
-ghost use Rattle.std.specs.Prelude.{◌≡◌, take, drop};
+ghost use Rattle.std.specs.Prelude.{◌≡◌, [], None};
+ghost use Rattle.script.specs.Words.{first_word};
 
 use cursor::fault::Expected;
-use text::property::Property;
 use schema::sealed::SealedSchema;
 use std::alloc::Global;
+use text::property::Property;
 use text::text::Text;
 use version::view_version::{SqlViewRepresentation, ViewVersion};
 
-// A part of one of the script's lists.
-#[derive(Clone, Copy)]
-pub struct Span {
-    pub from: usize,
-    pub count: usize,
-}
-
-// A version as the script has it: its lists are parts of the script's own.
-#[derive(Clone, Copy)]
+// A version as the script has it, with lists of its own.
+#[derive(Drop)]
 pub struct VersionParts {
     pub version_id: i32,
     pub schema_id: i32,
     pub timestamp_ms: i64,
-    pub summary: Span,
-    pub representations: Span,
+    pub summary: Vec<Property>,
+    pub representations: Vec<SqlViewRepresentation>,
     pub default_catalog: Option<Text>,
-    pub default_namespace: Span,
+    pub default_namespace: Vec<Text>,
 }
 
-#[derive(Clone, Copy)]
+#[derive(Drop)]
 pub enum Statement {
     Begin {
         format: u32,
@@ -51,13 +45,13 @@ pub enum Statement {
         clock: i64,
     },
     SetProperties {
-        updates: Span,
+        updates: Vec<Property>,
     },
     Build,
 }
 
 // A statement and the number of its line, counted from 1.
-#[derive(Clone, Copy)]
+#[derive(Drop)]
 pub struct Line {
     pub number: usize,
     pub statement: Statement,
@@ -70,54 +64,67 @@ pub struct Unread {
     pub expected: Expected,
 }
 
-// A script that was read: its statements, up to the first line that could not be read, and the texts and lists that they name.
+// A script that was read: its statements, up to the first line that could not be read, and the block of the texts that they name.
+// Kept: the texts share one block, since the library reads a text as a place in a block that is lent to it.
 #[derive(Drop)]
 pub struct Script {
     pub block: Vec<u8>,
-    pub pairs: Vec<Property>,
-    pub representations: Vec<SqlViewRepresentation>,
-    pub names: Vec<Text>,
-    pub properties: Vec<Property>,
     pub statements: Vec<Line>,
     pub unread: Option<Unread>,
 }
 
 impl Script {
-    pub fn new(heap: Global) -> Script {
+    // Nothing read yet.
+    pub fn new(heap: Global) -> Script
+        ensures block { result.block.items ≡ [] }
+        ensures statements { result.statements.items ≡ [] }
+        ensures unread { result.unread ≡ None }
+    {
         Script {
             block: Vec::new(heap),
-            pairs: Vec::new(heap),
-            representations: Vec::new(heap),
-            names: Vec::new(heap),
-            properties: Vec::new(heap),
             statements: Vec::new(heap),
             unread: None,
         }
     }
 }
 
-impl Span {
-    // The part of a list; of one that reaches outside, what is inside.
-    pub fn part<'s, T>(&self, items: &'s [T]) -> &'s [T]
-        ensures { result.now ≡ take self.now.count (drop self.now.from items.now) }
-    {
-        let start = self.from.min(items.len());
-        let rest = &items[start..];
-        &rest[0..self.count.min(rest.len())]
-    }
-}
-
 impl VersionParts {
-    // The version over the script's lists.
-    pub fn version<'s>(&self, script: &'s Script) -> ViewVersion<'s> {
+    // The version, its lists lent from the parts.
+    pub fn version(&self) -> ViewVersion<'_>
+        ensures id { result.version_id ≡ self.now.version_id }
+        ensures schema { result.schema_id ≡ self.now.schema_id }
+        ensures time { result.timestamp_ms ≡ self.now.timestamp_ms }
+        ensures summary { result.summary.now ≡ self.now.summary.items }
+        ensures representations { result.representations.now ≡ self.now.representations.items }
+        ensures catalog { result.default_catalog ≡ self.now.default_catalog }
+        ensures namespace { result.default_namespace.now ≡ self.now.default_namespace.items }
+    {
         ViewVersion {
             version_id: self.version_id,
             schema_id: self.schema_id,
             timestamp_ms: self.timestamp_ms,
-            summary: self.summary.part(script.pairs.as_slice()),
-            representations: self.representations.part(script.representations.as_slice()),
+            summary: self.summary.as_slice(),
+            representations: self.representations.as_slice(),
             default_catalog: self.default_catalog,
-            default_namespace: self.default_namespace.part(script.names.as_slice()),
+            default_namespace: self.default_namespace.as_slice(),
+        }
+    }
+}
+
+impl Statement {
+    // The word that the statement begins with.
+    pub fn name(&self) -> &'static str
+        ensures { result.now ≡ first_word self.now }
+    {
+        match self {
+            Statement::Begin { .. } => "begin",
+            Statement::SetLocation { .. } => "set-location",
+            Statement::AddSchema { .. } => "add-schema",
+            Statement::AddVersion { .. } => "add-version",
+            Statement::SetCurrent { .. } => "set-current",
+            Statement::SetCurrentVersion { .. } => "set-current-version",
+            Statement::SetProperties { .. } => "set-properties",
+            Statement::Build => "build",
         }
     }
 }

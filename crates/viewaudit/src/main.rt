@@ -6,9 +6,7 @@ use std::{env, fs};
 
 // The script: of the file that is named, or else of standard input.
 fn input(rt: &HostRuntime) -> anyhow::Result<Vec<u8>> {
-    let mut arguments = env::args(rt)?;
-    let _program = arguments.next();
-    match arguments.next() {
+    match env::args(rt)?.nth(1) {
         Some(path) => Ok(fs::read(rt, path.as_str())?),
         None => {
             let mut script = Vec::new(rt.alloc());
@@ -18,13 +16,9 @@ fn input(rt: &HostRuntime) -> anyhow::Result<Vec<u8>> {
     }
 }
 
-fn audit_script(rt: &HostRuntime) -> anyhow::Result<()> {
-    let script = input(rt)?;
+fn main(rt: HostRuntime) -> anyhow::Result<()> {
+    let script = input(&rt)?;
     let report = run(rt.alloc(), script.as_slice())?;
     rt.stdout().write_all(report.as_slice())?;
     Ok(())
-}
-
-fn main(rt: HostRuntime) -> anyhow::Result<()> {
-    audit_script(&rt)
 }
