@@ -20,26 +20,32 @@ type Builder<'s, 'a> = ViewMetadataBuilder<'s, 'a, 's, SealedSchema>;
 
 // What a statement does to the builder.
 fn run_edit<'s>(builder: &mut Builder<'s, '_>, statement: &'s Statement) -> Result<Done, Fault> {
-    match statement {
-        Statement::SetLocation { location } => builder.set_location(*location)?,
-        Statement::AddSchema { schema } => {
-            return Ok(Done::Schema(builder.add_schema(*schema)?));
+    let done = match statement {
+        Statement::SetLocation { location } => {
+            builder.set_location(*location)?;
+            Done::Accepted
         }
-        Statement::AddVersion { version } => {
-            return Ok(Done::Version(builder.add_version(version.version())?));
-        }
+        Statement::AddSchema { schema } => Done::Schema(builder.add_schema(*schema)?),
+        Statement::AddVersion { version } => Done::Version(builder.add_version(version.version())?),
         Statement::SetCurrent { version_id, clock } => {
             builder.set_current_version_id(*version_id, *clock)?;
+            Done::Accepted
         }
         Statement::SetCurrentVersion {
             schema,
             version,
             clock,
-        } => builder.set_current_version(*schema, version.version(), *clock)?,
-        Statement::SetProperties { updates } => builder.set_properties(updates.as_slice())?,
-        Statement::Begin { .. } | Statement::Build => return Ok(Done::NotRun),
-    }
-    Ok(Done::Accepted)
+        } => {
+            builder.set_current_version(*schema, version.version(), *clock)?;
+            Done::Accepted
+        }
+        Statement::SetProperties { updates } => {
+            builder.set_properties(updates.as_slice())?;
+            Done::Accepted
+        }
+        Statement::Begin { .. } | Statement::Build => Done::NotRun,
+    };
+    Ok(done)
 }
 
 // The lines before the first build, and those from it on.
