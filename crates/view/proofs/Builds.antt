@@ -27,7 +27,8 @@ use Rattle.expiry.proofs.Meanings.{expired_versions, ids_of_versions}
 use Rattle.view.specs.declared.view_metadata_builder.ViewMetadataBuilder.{ViewMetadataBuilder}
 use Rattle.view.specs.declared.view_update.ViewUpdate.{ViewUpdate}
 use Rattle.view.specs.declared.view_update.ViewUpdate.TheVariants.{AssignUuid, SetLocation, AddSchema, AddViewVersion, SetCurrentViewVersion, SetProperties, RemoveProperties}
-use Rattle.view.specs.Meaning.{Reading, reading, model_of, metadata, change_of, schema_of}
+use Rattle.view.specs.Meaning.{Reading, model_of, metadata, change_of, schema_of}
+use Rattle.view.proofs.Readings.{reading}
 use Rattle.view.specs.Steps.{with_log, with_versions}
 use Rattle.view.specs.Finished.{adds_version, logged, changes_of, HoldsBuild}
 use Rattle.view.proofs.Recording.{one_more}

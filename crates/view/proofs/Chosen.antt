@@ -21,7 +21,8 @@ use Rattle.schema.specs.declared.kind.SchemaKind as schema_kind
 use Rattle.version.specs.declared.view_version.ViewVersion.{ViewVersion}
 use Rattle.version.specs.Meaning.{version_in, version_of, content_of, version_verdict}
 use Rattle.view.specs.declared.view_metadata_builder.ViewMetadataBuilder.{ViewMetadataBuilder}
-use Rattle.view.specs.Meaning.{Reading, reading, model_of, schema_in, schema_of, outcome, Did}
+use Rattle.view.specs.Meaning.{Reading, model_of, schema_in, schema_of, outcome, Did}
+use Rattle.view.proofs.Readings.{reading}
 use Rattle.view.specs.Versions.{meant}
 use Rattle.view.specs.Plans.{counted, told, plan, schema_given, schema_choice, version_given, version_choice}
 use Rattle.view.proofs.Recording.{full_is}
@@ -33,7 +34,7 @@ meant_by means (Err y) f e = ap Err e
 meant_by means (Ok a) f e = absurd e
 
 -- a call that is defined to be accepted
-pub as_accepted : {X A E : Type 0} (g : Reading X) (means : E → Fault) (defined : Result (State g.C) Fault) (b : ViewMetadataBuilder X) (r : Result A E) (after : ViewMetadataBuilder X) (t : State g.C) →
+pub as_accepted : {X A E : Type 0} (g : Reading X) (means : E → Fault) (defined : Result (State g.Content) Fault) (b : ViewMetadataBuilder X) (r : Result A E) (after : ViewMetadataBuilder X) (t : State g.Content) →
     outcome g means r after ≡ defined → defined ≡ Ok t → Did g means defined b r after
 as_accepted g means defined b (Ok a) after t e q = record { as_defined = e; refused = tt }
 as_accepted g means defined b (Err f) after t e q = ok_not_err (e ∙ q)

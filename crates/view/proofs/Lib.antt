@@ -1,3 +1,4 @@
+pub mod Readings
 pub mod Recording
 pub mod Outcomes
 pub mod Mapped

@@ -102,9 +102,9 @@ module _ {X : Type 0} (g : Reading X) (b : ViewMetadataBuilder X) (v : ViewVersi
       ∙ ap (λ m. refuse_with versions_part m (reuse_or_add_version (model_of g b) handed (equal_version (model_of g b) handed.content))) h
 
   -- the state after the add, by its parts
-  abbrev shaped : VersionIn → List Version → ℕ → ℤ → Result (State g.C) Fault
+  abbrev shaped : VersionIn → List Version → ℕ → ℤ → Result (State g.Content) Fault
   shaped z vs r j =
-      let s : State g.C = model_of g b in
+      let s : State g.Content = model_of g b in
       recorded (version_added z)
       (state_of (updates.with_versions vs s.metadata) s.versions_at_start s.previous_version s.last_added_schema (Some j) s.pending_entry s.changes
       (record { schemas = s.rooms.schemas; versions = r; version_log = s.rooms.version_log; properties = s.rooms.properties; changes = s.rooms.changes }))

@@ -52,7 +52,7 @@ full_from b r f q p =
 not_pushed : {X : Type 0} (t : Table X) (x : X) → is_full t ≡ true → after_push t x ≡ t
 not_pushed t x h = ap (λ q. cond q t (with_one_more t x)) h
 
-module _ {X A E : Type 0} (g : Reading X) (means : E → refusals.Fault) (defined : Result (State g.C) refusals.Fault) (b : ViewMetadataBuilder X) where
+module _ {X A E : Type 0} (g : Reading X) (means : E → refusals.Fault) (defined : Result (State g.Content) refusals.Fault) (b : ViewMetadataBuilder X) where
   -- the exit of a `?` answers the fault that the conversion gives
   exit_by : (s : Result A E) (after : ViewMetadataBuilder X) (f : refusals.Fault) → IsErrAnd s (λ y. means y ≡ f) → outcome g means s after ≡ Err f
   exit_by (Err y) after f e = ap Err e
@@ -75,7 +75,7 @@ module _ {X A E : Type 0} (g : Reading X) (means : E → refusals.Fault) (define
   accepted_on inner a answered after d = went answered after (sym d.as_defined)
 
   -- another name for what is defined
-  pub redefined : {other : Result (State g.C) refusals.Fault} (s : Result A E) (after : ViewMetadataBuilder X) → Did g means defined b s after → defined ≡ other → Did g means other b s after
+  pub redefined : {other : Result (State g.Content) refusals.Fault} (s : Result A E) (after : ViewMetadataBuilder X) → Did g means defined b s after → defined ≡ other → Did g means other b s after
   redefined s after d e = record { as_defined = d.as_defined ∙ e; refused = d.refused }
 
   module _ (u : ViewUpdate X) (r : Result (Unit {0}) ChangesFull) (answer : r ≡ record_answer b)

@@ -18,7 +18,8 @@ use Rattle.register.specs.Faults.{register_number}
 use Rattle.schema.specs.declared.kind.SchemaKind as schema_kind
 use Rattle.view.specs.declared.view_metadata_builder.ViewMetadataBuilder.{ViewMetadataBuilder}
 use Rattle.view.specs.declared.view_update.ViewUpdate.TheVariants.{AddSchema}
-use Rattle.view.specs.Meaning.{Reading, reading, model_of, change_of, schema_in, schema_of}
+use Rattle.view.specs.Meaning.{Reading, model_of, change_of, schema_in, schema_of}
+use Rattle.view.proofs.Readings.{reading}
 use Rattle.view.specs.Steps.{with_schemas, with_last_schema}
 use Rattle.view.proofs.Recording.{full_is, one_more}
 use Rattle.view.proofs.NewIds.{refused_id, given_id}

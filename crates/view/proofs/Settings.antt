@@ -69,7 +69,7 @@ module _ {X : Type 0} (g : Reading X) (b : ViewMetadataBuilder X) (ps : List Pro
   block = b.text.now
 
   -- the edit
-  abbrev after : Result (State g.C) refusals.Fault
+  abbrev after : Result (State g.Content) refusals.Fault
   after = edit g.alike (model_of g b) (set_properties (map (property_in block) ps)) clock
 
   -- whether the properties are other ones
@@ -88,9 +88,9 @@ module _ {X : Type 0} (g : Reading X) (b : ViewMetadataBuilder X) (ps : List Pro
       simp (w.1, same)
 
   -- the record of a change, with the properties after it and the room of their table
-  abbrev shaped : Change g.C → List model.Property → ℕ → Result (State g.C) refusals.Fault
+  abbrev shaped : Change g.Content → List model.Property → ℕ → Result (State g.Content) refusals.Fault
   shaped change new r =
-      let s : State g.C = model_of g b in
+      let s : State g.Content = model_of g b in
       recorded change
       (state_of (updates.with_properties new s.metadata) s.versions_at_start s.previous_version s.last_added_schema s.last_added_version s.pending_entry s.changes
       (record { schemas = s.rooms.schemas; versions = s.rooms.versions; version_log = s.rooms.version_log; properties = r; changes = s.rooms.changes }))

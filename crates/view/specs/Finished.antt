@@ -38,20 +38,20 @@ logged t (Some e) = after_push t e
 
 module _ {X : Type 0} (g : Reading X) where
   -- the recorded changes of a builder
-  abbrev pub changes_of : ViewMetadataBuilder X → List (Change g.C)
+  abbrev pub changes_of : ViewMetadataBuilder X → List (Change g.Content)
   changes_of b = map (change_of g b.text.now) (held_in b.changes)
 
   -- what a builder holds is the answer of the build of another
   abbrev pub HoldsBuild : ViewMetadataBuilder X → ViewMetadataBuilder X → Type 0
-  HoldsBuild b after = ◌≡◌ {A = Metadata g.C × List (Change g.C)} (metadata g after, changes_of after) (built_metadata (model_of g b), changes_of b)
+  HoldsBuild b after = ◌≡◌ {A = Metadata g.Content × List (Change g.Content)} (metadata g after, changes_of after) (built_metadata (model_of g b), changes_of b)
 
   -- what a build answers, by the answer of the tests before it
-  abbrev pub build_after : ViewMetadataBuilder X → Result (Unit {0}) Fault → Result (Metadata g.C × List (Change g.C)) refusals.Fault
+  abbrev pub build_after : ViewMetadataBuilder X → Result (Unit {0}) Fault → Result (Metadata g.Content × List (Change g.Content)) refusals.Fault
   build_after b (Ok u) = Ok (built_metadata (model_of g b), changes_of b)
   build_after b (Err f) = Err (fault_of f)
 
   -- the built metadata
-  abbrev pub built_metadata_of : Built X → Metadata g.C
+  abbrev pub built_metadata_of : Built X → Metadata g.Content
   built_metadata_of b =
       let block : Bytes = b.text.now in
       metadata_of 1 b.uuid (bytes_of block b.location) b.current_version_id
@@ -61,7 +61,7 @@ module _ {X : Type 0} (g : Reading X) where
       (properties_of block b.properties)
 
   -- the built metadata and the recorded changes
-  abbrev pub built_of : Built X → Metadata g.C × List (Change g.C)
+  abbrev pub built_of : Built X → Metadata g.Content × List (Change g.Content)
   built_of b = (built_metadata_of b, map (change_of g b.text.now) (held_in b.changes))
 
   -- the answer is what the build of that builder is defined to be; a refusal hands the builder back as it was

@@ -9,9 +9,6 @@ use Rattle.model.specs.Updates.{metadata_of, state_of}
 use Rattle.model.specs.Edits.{edit}
 use Rattle.text.specs.Meaning.{bytes_of, text_in}
 use Rattle.register.specs.Tables.{held_in, room}
-use Rattle.register.specs.declared.numbered.Identified as identified
-use Rattle.register.specs.declared.numbered.Numbered as numbered
-use Rattle.schema.specs.declared.kind.SchemaKind as schema_kind
 use Rattle.version.specs.Meaning.{version_of, version_in, entry_of}
 use Rattle.text.specs.Properties.{property_in}
 use Rattle.property.specs.Meaning.{properties_of, room_of}
@@ -21,30 +18,30 @@ use Rattle.view.specs.declared.view_update.ViewUpdate.{ViewUpdate}
 use Rattle.view.specs.declared.view_update.ViewUpdate.TheVariants.{AssignUuid, SetLocation, AddSchema, AddViewVersion, SetCurrentViewVersion, SetProperties, RemoveProperties}
 use Rattle.view.specs.declared.view_metadata_builder.ViewMetadataBuilder.{ViewMetadataBuilder}
 
--- how schemas of a kind are read: contents and their test, and of a schema over a text block its id, content, greatest field number and verdict
-pub record Reading (X : Type 0) : Type 1 where
-  pub C : Type 0
-  pub alike : C → C → Bool
-  pub named : X → ℤ
-  pub content : Bytes → X → C
-  pub greatest : Bytes → X → ℤ
-  pub verdict : Bytes → X → Option ℕ
-
--- the reading that a schema kind states
-abbrev pub reading : {X : Type 0} → identified.Ghosts X → numbered.Ghosts X → schema_kind.Ghosts X → Reading X
-reading i n k = record { C = n.Content; alike = n.alike; named = i.named; content = n.content; greatest = k.greatest; verdict = n.verdict }
+-- what a kind of schema states: of a schema its id and its copy under another, over a text block its content, verdict and greatest field number; and contents and their test
+abbrev pub Reading : Type 0 → Type 1
+Reading X = record {
+  named : X → ℤ;
+  initial : ℤ;
+  Content : Type 0;
+  content : Bytes → X → Content;
+  alike : Content → Content → Bool;
+  verdict : Bytes → X → Option ℕ;
+  copied : ℤ → X → X;
+  greatest : Bytes → X → ℤ;
+}
 
 module _ {X : Type 0} (g : Reading X) where
   -- a schema held
-  abbrev pub schema_of : Bytes → X → Schema g.C
+  abbrev pub schema_of : Bytes → X → Schema g.Content
   schema_of block x = record { id = g.named x; content = g.content block x }
 
   -- a schema handed in
-  abbrev pub schema_in : Bytes → X → SchemaIn g.C
+  abbrev pub schema_in : Bytes → X → SchemaIn g.Content
   schema_in block x = record { id = g.named x; content = g.content block x; greatest_field = g.greatest block x; verdict = g.verdict block x }
 
   -- a recorded change
-  abbrev pub change_of : Bytes → ViewUpdate X → Change g.C
+  abbrev pub change_of : Bytes → ViewUpdate X → Change g.Content
   change_of block (AssignUuid u) = uuid_assigned u
   change_of block (SetLocation t) = location_set (text_in block t)
   change_of block (AddSchema x i) = schema_added (schema_in block x) i
@@ -54,7 +51,7 @@ module _ {X : Type 0} (g : Reading X) where
   change_of block (RemoveProperties ks) = properties_removed (map (text_in block) ks.now)
 
   -- the metadata as a builder has edited it
-  abbrev pub metadata : ViewMetadataBuilder X → Metadata g.C
+  abbrev pub metadata : ViewMetadataBuilder X → Metadata g.Content
   metadata b =
       let block : Bytes = b.text.now in
       metadata_of 1 b.uuid (bytes_of block b.location) b.current_version_id
@@ -74,7 +71,7 @@ module _ {X : Type 0} (g : Reading X) where
   }
 
   -- what a builder holds
-  abbrev pub model_of : ViewMetadataBuilder X → State g.C
+  abbrev pub model_of : ViewMetadataBuilder X → State g.Content
   model_of b =
       let block : Bytes = b.text.now in
       state_of (metadata b) b.opened_versions (option_map (version_of block) b.previous_view_version)
@@ -82,7 +79,7 @@ module _ {X : Type 0} (g : Reading X) where
       (map (change_of block) (held_in b.changes)) (rooms b)
 
   -- what a call made of a builder, by its answer and the builder at exit; `means` says what its faults are
-  abbrev pub outcome : {A E : Type 0} → (E → refusals.Fault) → Result A E → ViewMetadataBuilder X → Result (State g.C) refusals.Fault
+  abbrev pub outcome : {A E : Type 0} → (E → refusals.Fault) → Result A E → ViewMetadataBuilder X → Result (State g.Content) refusals.Fault
   outcome means (Ok a) b = Ok (model_of b)
   outcome means (Err f) b = Err (means f)
 
@@ -102,10 +99,10 @@ answers_last_version (Ok i) b = b.last_added_version_id ≡ Some i
 answers_last_version (Err f) b = Unit {0}
 
 -- a call did what is defined, and left the builder as it was where it was refused
-pub record Did {X A E : Type 0} (g : Reading X) (means : E → refusals.Fault) (defined : Result (State g.C) refusals.Fault) (before : ViewMetadataBuilder X) (r : Result A E) (after : ViewMetadataBuilder X) : Type 0 where
+pub record Did {X A E : Type 0} (g : Reading X) (means : E → refusals.Fault) (defined : Result (State g.Content) refusals.Fault) (before : ViewMetadataBuilder X) (r : Result A E) (after : ViewMetadataBuilder X) : Type 0 where
   pub as_defined : outcome g means r after ≡ defined
   pub refused : unchanged_if_refused r before after
 
 -- a call did what the edit is defined to do at that time of the clock
-abbrev pub Applied : {X A : Type 0} (g : Reading X) → Edit g.C → ℤ → ViewMetadataBuilder X → Result A Fault → ViewMetadataBuilder X → Type 0
+abbrev pub Applied : {X A : Type 0} (g : Reading X) → Edit g.Content → ℤ → ViewMetadataBuilder X → Result A Fault → ViewMetadataBuilder X → Type 0
 Applied g e clock before r after = Did g fault_of (edit g.alike (model_of g before) e clock) before r after

@@ -5,7 +5,7 @@ ghost use Rattle.model.specs.Start.{to_begin, begin_or_open, started, empty};
 ghost use Rattle.model.specs.Texts.{block_fits};
 ghost use Rattle.register.specs.Tables.{room};
 ghost use Rattle.view.specs.Beginnings.{begun, over_text, tested};
-ghost use Rattle.view.specs.Meaning.{reading, model_of, Applied};
+ghost use Rattle.view.specs.Meaning.{model_of, Applied};
 
 use super::view_metadata_builder::ViewMetadataBuilder;
 use super::view_update::ViewUpdate;
@@ -89,7 +89,7 @@ impl<'t> Beginning<'t> {
         properties: &'a mut [Property; MAX_PROPERTIES],
         changes: &'a mut [ViewUpdate<'v, S>; MAX_CHANGES],
     ) -> ViewMetadataBuilder<'t, 'a, 'v, S>
-        ensures model { model_of (reading S.Identified S.Numbered.own S.SchemaKind.own) result ≡ started (empty self.entry.uuid) }
+        ensures model { model_of S.SchemaKind result ≡ started (empty self.entry.uuid) }
         ensures text { result.text.now ≡ self.entry.text.now }
         ensures schemas { result.schemas.table.slots.now ≡ schemas.old }
         ensures versions { result.versions.table.slots.now ≡ versions.old }
@@ -127,7 +127,7 @@ impl<'t> Beginning<'t> {
 impl<'t, 'a, 'v, S: SchemaKind> ViewMetadataBuilder<'t, 'a, 'v, S> {
     // Accepts the one format version; there is nothing to change or record.
     pub fn upgrade_format_version(&mut self, format_version: u32) -> Result<(), Fault>
-        ensures { (clock : ℤ) → Applied (reading S.Identified S.Numbered.own S.SchemaKind.own) (upgrade_format format_version) clock self.old result self.new }
+        ensures { (clock : ℤ) → Applied S.SchemaKind (upgrade_format format_version) clock self.old result self.new }
     {
         check_format(format_version)
     }

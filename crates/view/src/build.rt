@@ -6,7 +6,7 @@ ghost use Rattle.model.specs.Build.{build, additions, look_up, drop_allowed, los
 ghost use Rattle.register.specs.Tables.{held_in, room};
 ghost use Rattle.version.specs.Meaning.{version_of, content_of, entry_of};
 ghost use Rattle.property.specs.Meaning.{properties_of};
-ghost use Rattle.view.specs.Meaning.{reading, model_of};
+ghost use Rattle.view.specs.Meaning.{model_of};
 ghost use Rattle.view.specs.Steps.{with_log};
 ghost use Rattle.view.specs.Finished.{adds_version, logged, changes_of, build_after, HoldsBuild, Builds, Shows};
 
@@ -58,7 +58,7 @@ fn adds_version<S>(change: &ViewUpdate<'_, S>) -> bool
 impl<'t, 'a, 'v, S: SchemaKind> ViewMetadataBuilder<'t, 'a, 'v, S> {
     // How many recorded changes add a version.
     fn num_added_versions(&self) -> usize
-        ensures { result ≡ additions (changes_of (reading S.Identified S.Numbered.own S.SchemaKind.own) self.now) }
+        ensures { result ≡ additions (changes_of S.SchemaKind self.now) }
     {
         let changes = self.changes.items();
         let mut count = 0;
@@ -95,7 +95,7 @@ impl<'t, 'a, 'v, S: SchemaKind> ViewMetadataBuilder<'t, 'a, 'v, S> {
 
     // Refuses a builder of which no view can be built.
     fn require_buildable(&self) -> Result<(), Fault>
-        ensures { build_after (reading S.Identified S.Numbered.own S.SchemaKind.own) self.now result ≡ build (model_of (reading S.Identified S.Numbered.own S.SchemaKind.own) self.now) }
+        ensures { build_after S.SchemaKind self.now result ≡ build (model_of S.SchemaKind self.now) }
     {
         let Some(current) = find(self.versions.table.items(), self.current_version_id) else {
             return Err(Fault {
@@ -140,7 +140,7 @@ impl<'t, 'a, 'v, S: SchemaKind> ViewMetadataBuilder<'t, 'a, 'v, S> {
     // Adds the pending entry to the log, expires versions, and cuts the log to those that stay.
     fn finish(&mut self)
         requires { over (room self.old.version_log) (with_entry (map entry_of (held_in self.old.version_log)) (option_map entry_of self.old.history_entry)) ≡ false }
-        ensures { HoldsBuild (reading S.Identified S.Numbered.own S.SchemaKind.own) self.old self.new }
+        ensures { HoldsBuild S.SchemaKind self.old self.new }
     {
         self.add_history_entry();
         let size = self.properties.history_size(self.text);
@@ -157,7 +157,7 @@ impl<'t, 'a, 'v, S: SchemaKind> ViewMetadataBuilder<'t, 'a, 'v, S> {
 
     // Builds the view, or hands the builder back as it was.
     pub fn build(mut self) -> Result<Built<'t, 'a, 'v, S>, Refused<'t, 'a, 'v, S>>
-        ensures { Builds (reading S.Identified S.Numbered.own S.SchemaKind.own) self.entry result }
+        ensures { Builds S.SchemaKind self.entry result }
     {
         if let Err(fault) = self.require_buildable() {
             return Err(Refused {

@@ -8,7 +8,7 @@ ghost use Rattle.version.specs.Meaning.{entry_of};
 ghost use Rattle.version.specs.Meaning.{version_in};
 ghost use Rattle.register.specs.Tables.{room};
 ghost use Rattle.fault.specs.Layers.{schema_fault, version_fault, changes_fault};
-ghost use Rattle.view.specs.Meaning.{reading, model_of, schema_in, Applied};
+ghost use Rattle.view.specs.Meaning.{model_of, schema_in, Applied};
 ghost use Rattle.view.specs.Versions.{meant};
 ghost use Rattle.view.specs.Plans.{counted, schema_choice, version_choice, plan};
 
@@ -44,7 +44,7 @@ fn own_fault(refusal: Refusal) -> Fault
 impl<'t, 'a, 'v, S: SchemaKind> ViewMetadataBuilder<'t, 'a, 'v, S> {
     // The log entry for the id that becomes current.
     fn log_entry(&self, id: i32, clock: i64) -> ViewVersionLog
-        ensures { entry_of result ≡ log_entry (entered (model_of (reading S.Identified S.Numbered.own S.SchemaKind.own) self.now)) id clock }
+        ensures { entry_of result ≡ log_entry (entered (model_of S.SchemaKind self.now)) id clock }
     {
         let held = self.versions.table.items();
         let start = self.opened_versions.min(held.len());
@@ -62,7 +62,7 @@ impl<'t, 'a, 'v, S: SchemaKind> ViewMetadataBuilder<'t, 'a, 'v, S> {
 
     // Sets the id of the current version; -1 is the version last added.
     pub fn set_current_version_id(&mut self, version_id: i32, clock: i64) -> Result<(), Fault>
-        ensures { Applied (reading S.Identified S.Numbered.own S.SchemaKind.own) (set_current_version_id version_id) clock self.old result self.new }
+        ensures { Applied S.SchemaKind (set_current_version_id version_id) clock self.old result self.new }
     {
         let Some(id) = resolved(version_id, self.last_added_version_id) else {
             return Err(own_fault(Refusal::NoVersionAdded));
@@ -83,7 +83,7 @@ impl<'t, 'a, 'v, S: SchemaKind> ViewMetadataBuilder<'t, 'a, 'v, S> {
 
     // The id that an add of the schema gives, and whether it is recorded.
     fn schema_choice(&self, schema: &S) -> Result<(i32, bool), SchemaFault>
-        ensures { meant schema_fault result ≡ schema_choice S.Numbered.alike (model_of (reading S.Identified S.Numbered.own S.SchemaKind.own) self.now) (schema_in (reading S.Identified S.Numbered.own S.SchemaKind.own) self.now.text.now schema.now) }
+        ensures { meant schema_fault result ≡ schema_choice S.Numbered.alike (model_of S.SchemaKind self.now) (schema_in S.SchemaKind self.now.text.now schema.now) }
     {
         schema.check(self.text)?;
         match self.schemas.lowest_same(schema, self.text) {
@@ -94,7 +94,7 @@ impl<'t, 'a, 'v, S: SchemaKind> ViewMetadataBuilder<'t, 'a, 'v, S> {
 
     // The id that an add of the version gives where its schema is held, and whether it is recorded.
     fn version_choice(&self, version: &ViewVersion<'v>) -> Result<(i32, bool), VersionFault>
-        ensures { meant version_fault result ≡ version_choice (model_of (reading S.Identified S.Numbered.own S.SchemaKind.own) self.now) (version_in self.now.text.now version.now) }
+        ensures { meant version_fault result ≡ version_choice (model_of S.SchemaKind self.now) (version_in self.now.text.now version.now) }
     {
         version.check(self.text)?;
         if let Some(id) = self.versions.lowest_same(version, self.text) {
@@ -124,7 +124,7 @@ impl<'t, 'a, 'v, S: SchemaKind> ViewMetadataBuilder<'t, 'a, 'v, S> {
 
     // How many changes there are after the three edits of set_current_version, or the first refusal.
     fn plan_current_version(&self, schema: &S, version: ViewVersion<'v>) -> Result<usize, Fault>
-        ensures { meant fault_of result ≡ plan S.Numbered.alike (model_of (reading S.Identified S.Numbered.own S.SchemaKind.own) self.now) (schema_in (reading S.Identified S.Numbered.own S.SchemaKind.own) self.now.text.now schema.now) (version_in self.now.text.now version.entry) }
+        ensures { meant fault_of result ≡ plan S.Numbered.alike (model_of S.SchemaKind self.now) (schema_in S.SchemaKind self.now.text.now schema.now) (version_in self.now.text.now version.entry) }
     {
         let (schema_id, recorded) = self.schema_choice(schema)?;
         let changes = self.count_change(self.changes.items().len(), recorded)?;
@@ -141,7 +141,7 @@ impl<'t, 'a, 'v, S: SchemaKind> ViewMetadataBuilder<'t, 'a, 'v, S> {
         version: ViewVersion<'v>,
         clock: i64,
     ) -> Result<(), Fault>
-        ensures { Applied (reading S.Identified S.Numbered.own S.SchemaKind.own) (set_current_version (schema_in (reading S.Identified S.Numbered.own S.SchemaKind.own) self.old.text.now schema) (version_in self.old.text.now version.entry)) clock self.old result self.new }
+        ensures { Applied S.SchemaKind (set_current_version (schema_in S.SchemaKind self.old.text.now schema) (version_in self.old.text.now version.entry)) clock self.old result self.new }
     {
         let _ = self.plan_current_version(&schema, version)?;
         let schema_id = self.add_schema_internal(schema)?;

@@ -3,7 +3,7 @@ ghost use Rattle.model.specs.State.{assign_uuid, set_properties};
 ghost use Rattle.fault.specs.Meaning.{fault_of};
 ghost use Rattle.text.specs.Properties.{property_in};
 ghost use Rattle.property.specs.Outcomes.{fault_of as property_fault};
-ghost use Rattle.view.specs.Meaning.{reading, Applied};
+ghost use Rattle.view.specs.Meaning.{Applied};
 
 use super::view_metadata_builder::ViewMetadataBuilder;
 use super::view_update::ViewUpdate;
@@ -32,7 +32,7 @@ fn of_properties(fault: PropertyFault) -> Fault
 impl<'t, 'a, 'v, S: SchemaKind> ViewMetadataBuilder<'t, 'a, 'v, S> {
     // Gives the view another uuid.
     pub fn assign_uuid(&mut self, uuid: [u8; 16]) -> Result<(), Fault>
-        ensures { (clock : ℤ) → Applied (reading S.Identified S.Numbered.own S.SchemaKind.own) (assign_uuid uuid) clock self.old result self.new }
+        ensures { (clock : ℤ) → Applied S.SchemaKind (assign_uuid uuid) clock self.old result self.new }
     {
         if uuid == self.uuid {
             return Ok(());
@@ -44,7 +44,7 @@ impl<'t, 'a, 'v, S: SchemaKind> ViewMetadataBuilder<'t, 'a, 'v, S> {
 
     // Sets properties, all or none; records them where one changes.
     pub fn set_properties(&mut self, updates: &'v [Property]) -> Result<(), Fault>
-        ensures { (clock : ℤ) → Applied (reading S.Identified S.Numbered.own S.SchemaKind.own) (set_properties (map (property_in self.old.text.now) updates.now)) clock self.old result self.new }
+        ensures { (clock : ℤ) → Applied S.SchemaKind (set_properties (map (property_in self.old.text.now) updates.now)) clock self.old result self.new }
     {
         let changes = match self.properties.plan(updates, self.text) {
             Ok(changes) => changes,

@@ -4,7 +4,7 @@ ghost use Rattle.model.specs.State.{add_version};
 ghost use Rattle.model.specs.Edits.{reuse_or_add_version, after_add_version};
 ghost use Rattle.version.specs.Meaning.{version_in};
 ghost use Rattle.fault.specs.Layers.{version_fault};
-ghost use Rattle.view.specs.Meaning.{reading, model_of, Applied, Did, answers_last_version};
+ghost use Rattle.view.specs.Meaning.{model_of, Applied, Did, answers_last_version};
 ghost use Rattle.view.specs.Versions.{meant, admitted_under, recorded_form};
 
 use super::view_metadata_builder::{LAST_ADDED, ViewMetadataBuilder, is_last, resolved};
@@ -21,7 +21,7 @@ use version::view_version::ViewVersion;
 impl<'t, 'a, 'v, S: SchemaKind> ViewMetadataBuilder<'t, 'a, 'v, S> {
     // Reuse of the held version with that id.
     fn reuse_version(&mut self, version: ViewVersion<'v>, id: i32) -> Result<i32, VersionFault>
-        ensures did { Did (reading S.Identified S.Numbered.own S.SchemaKind.own) version_fault (reuse_or_add_version (model_of (reading S.Identified S.Numbered.own S.SchemaKind.own) self.old) (version_in self.old.text.now version.entry) (Some id)) self.old result self.new }
+        ensures did { Did S.SchemaKind version_fault (reuse_or_add_version (model_of S.SchemaKind self.old) (version_in self.old.text.now version.entry) (Some id)) self.old result self.new }
         ensures answer { answers_last_version result self.new }
     {
         if is_last(self.last_added_version_id, id) {
@@ -36,7 +36,7 @@ impl<'t, 'a, 'v, S: SchemaKind> ViewMetadataBuilder<'t, 'a, 'v, S> {
 
     // The schema id under which the version enters as new, if it may.
     fn require_new(&self, version: &ViewVersion<'v>) -> Result<i32, VersionFault>
-        ensures { meant version_fault result ≡ admitted_under (model_of (reading S.Identified S.Numbered.own S.SchemaKind.own) self.now) (version_in self.now.text.now version.now) }
+        ensures { meant version_fault result ≡ admitted_under (model_of S.SchemaKind self.now) (version_in self.now.text.now version.now) }
     {
         let Some(schema_id) = resolved(version.schema_id, self.last_added_schema_id) else {
             return Err(VersionFault::NoSchemaAdded);
@@ -55,7 +55,7 @@ impl<'t, 'a, 'v, S: SchemaKind> ViewMetadataBuilder<'t, 'a, 'v, S> {
 
     // A new version, under the next id.
     fn enter_version(&mut self, version: ViewVersion<'v>) -> Result<i32, VersionFault>
-        ensures did { Did (reading S.Identified S.Numbered.own S.SchemaKind.own) version_fault (reuse_or_add_version (model_of (reading S.Identified S.Numbered.own S.SchemaKind.own) self.old) (version_in self.old.text.now version.entry) None) self.old result self.new }
+        ensures did { Did S.SchemaKind version_fault (reuse_or_add_version (model_of S.SchemaKind self.old) (version_in self.old.text.now version.entry) None) self.old result self.new }
         ensures answer { answers_last_version result self.new }
     {
         let schema_id = self.require_new(&version)?;
@@ -73,7 +73,7 @@ impl<'t, 'a, 'v, S: SchemaKind> ViewMetadataBuilder<'t, 'a, 'v, S> {
         &mut self,
         version: ViewVersion<'v>,
     ) -> Result<i32, VersionFault>
-        ensures did { Did (reading S.Identified S.Numbered.own S.SchemaKind.own) version_fault (after_add_version (model_of (reading S.Identified S.Numbered.own S.SchemaKind.own) self.old) (version_in self.old.text.now version.entry)) self.old result self.new }
+        ensures did { Did S.SchemaKind version_fault (after_add_version (model_of S.SchemaKind self.old) (version_in self.old.text.now version.entry)) self.old result self.new }
         ensures answer { answers_last_version result self.new }
     {
         version.check(self.text)?;
@@ -85,7 +85,7 @@ impl<'t, 'a, 'v, S: SchemaKind> ViewMetadataBuilder<'t, 'a, 'v, S> {
 
     // Adds a version, or reuses the held one with the same content; answers its id.
     pub fn add_version(&mut self, version: ViewVersion<'v>) -> Result<i32, Fault>
-        ensures did { (clock : ℤ) → Applied (reading S.Identified S.Numbered.own S.SchemaKind.own) (add_version (version_in self.old.text.now version.entry)) clock self.old result self.new }
+        ensures did { (clock : ℤ) → Applied S.SchemaKind (add_version (version_in self.old.text.now version.entry)) clock self.old result self.new }
         ensures answer { answers_last_version result self.new }
     {
         Ok(self.add_version_internal(version)?)

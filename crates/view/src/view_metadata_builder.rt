@@ -5,7 +5,7 @@ ghost use Rattle.model.specs.Ids.{is_id, resolved_id};
 ghost use Rattle.fault.specs.Layers.{schema_fault};
 ghost use Rattle.text.specs.Meaning.{text_in};
 ghost use Rattle.register.specs.Tables.{after_push};
-ghost use Rattle.view.specs.Meaning.{reading, model_of, schema_in, Applied, Did, answers_last_schema};
+ghost use Rattle.view.specs.Meaning.{model_of, schema_in, Applied, Did, answers_last_schema};
 ghost use Rattle.view.specs.Steps.{with_changes, record_answer};
 
 use super::view_update::ViewUpdate;
@@ -56,7 +56,7 @@ impl<'t, 'a, 'v, S: SchemaKind> ViewMetadataBuilder<'t, 'a, 'v, S> {
 
     // Sets the location of the view, without its trailing slashes.
     pub fn set_location(&mut self, location: Text) -> Result<(), Fault>
-        ensures { (clock : ℤ) → Applied (reading S.Identified S.Numbered.own S.SchemaKind.own) (set_location (text_in self.old.text.now location)) clock self.old result self.new }
+        ensures { (clock : ℤ) → Applied S.SchemaKind (set_location (text_in self.old.text.now location)) clock self.old result self.new }
     {
         location.check(self.text)?;
         let location = location.without_trailing_slashes(self.text);
@@ -70,7 +70,7 @@ impl<'t, 'a, 'v, S: SchemaKind> ViewMetadataBuilder<'t, 'a, 'v, S> {
 
     // Reuse of the held schema with that id.
     fn reuse_schema(&mut self, schema: S, id: i32) -> Result<i32, SchemaFault>
-        ensures did { Did (reading S.Identified S.Numbered.own S.SchemaKind.own) schema_fault (reuse_or_add_schema (model_of (reading S.Identified S.Numbered.own S.SchemaKind.own) self.old) (schema_in (reading S.Identified S.Numbered.own S.SchemaKind.own) self.old.text.now schema) (Some id)) self.old result self.new }
+        ensures did { Did S.SchemaKind schema_fault (reuse_or_add_schema (model_of S.SchemaKind self.old) (schema_in S.SchemaKind self.old.text.now schema) (Some id)) self.old result self.new }
         ensures answer { answers_last_schema result self.new }
         ensures block { self.new.text.now ≡ self.old.text.now }
     {
@@ -87,7 +87,7 @@ impl<'t, 'a, 'v, S: SchemaKind> ViewMetadataBuilder<'t, 'a, 'v, S> {
 
     // A new schema, under the next id.
     fn enter_schema(&mut self, schema: S) -> Result<i32, SchemaFault>
-        ensures did { Did (reading S.Identified S.Numbered.own S.SchemaKind.own) schema_fault (reuse_or_add_schema (model_of (reading S.Identified S.Numbered.own S.SchemaKind.own) self.old) (schema_in (reading S.Identified S.Numbered.own S.SchemaKind.own) self.old.text.now schema) None) self.old result self.new }
+        ensures did { Did S.SchemaKind schema_fault (reuse_or_add_schema (model_of S.SchemaKind self.old) (schema_in S.SchemaKind self.old.text.now schema) None) self.old result self.new }
         ensures answer { answers_last_schema result self.new }
         ensures block { self.new.text.now ≡ self.old.text.now }
     {
@@ -104,7 +104,7 @@ impl<'t, 'a, 'v, S: SchemaKind> ViewMetadataBuilder<'t, 'a, 'v, S> {
     }
 
     pub(crate) fn add_schema_internal(&mut self, schema: S) -> Result<i32, SchemaFault>
-        ensures did { Did (reading S.Identified S.Numbered.own S.SchemaKind.own) schema_fault (after_add_schema S.Numbered.alike (model_of (reading S.Identified S.Numbered.own S.SchemaKind.own) self.old) (schema_in (reading S.Identified S.Numbered.own S.SchemaKind.own) self.old.text.now schema)) self.old result self.new }
+        ensures did { Did S.SchemaKind schema_fault (after_add_schema S.Numbered.alike (model_of S.SchemaKind self.old) (schema_in S.SchemaKind self.old.text.now schema)) self.old result self.new }
         ensures answer { answers_last_schema result self.new }
         ensures block { self.new.text.now ≡ self.old.text.now }
     {
@@ -117,7 +117,7 @@ impl<'t, 'a, 'v, S: SchemaKind> ViewMetadataBuilder<'t, 'a, 'v, S> {
 
     // Adds a schema, or reuses the held one with the same content; answers its id.
     pub fn add_schema(&mut self, schema: S) -> Result<i32, Fault>
-        ensures did { (clock : ℤ) → Applied (reading S.Identified S.Numbered.own S.SchemaKind.own) (add_schema (schema_in (reading S.Identified S.Numbered.own S.SchemaKind.own) self.old.text.now schema)) clock self.old result self.new }
+        ensures did { (clock : ℤ) → Applied S.SchemaKind (add_schema (schema_in S.SchemaKind self.old.text.now schema)) clock self.old result self.new }
         ensures answer { answers_last_schema result self.new }
     {
         Ok(self.add_schema_internal(schema)?)

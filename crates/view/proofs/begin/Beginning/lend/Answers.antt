@@ -1,7 +1,8 @@
 use Rattle.std.proofs.Common.{length, refl, ap, ◌∙◌}
 use Rattle.text.specs.Properties.{property_of}
 use Rattle.version.specs.Meaning.{version_of, entry_of}
-use Rattle.view.specs.Meaning.{reading, schema_of, change_of}
+use Rattle.view.specs.Meaning.{schema_of, change_of}
+use Rattle.view.proofs.Readings.{reading}
 use Rattle.view.proofs.Starts.{none_held, bare}
 use Rattle.view.proofs.begin.Beginning.lend.Goals as goal
 

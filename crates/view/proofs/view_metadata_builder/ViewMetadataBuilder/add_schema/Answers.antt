@@ -2,7 +2,7 @@ use Rattle.std.proofs.Common.{Some, sym, ap, ◌∙◌, w32, rules}
 use Rattle.std.proofs.lemmas.Int.{to_z-of_z}
 use Rattle.fault.specs.Meaning.{fault_of}
 use Rattle.fault.specs.Layers.{schema_fault}
-use Rattle.view.specs.Meaning.{reading}
+use Rattle.view.proofs.Readings.{reading}
 use Rattle.view.proofs.Outcomes.{redefined, handed_on, accepted_on, no_schema_answer}
 use Rattle.view.proofs.Edits.{schema_edit}
 use Rattle.view.proofs.view_metadata_builder.ViewMetadataBuilder.add_schema.Goals as goal

@@ -3,7 +3,7 @@ use Rattle.std.proofs.lemmas.Int.{to_z-of_z}
 use Rattle.register.specs.Faults.{record_number}
 use Rattle.fault.specs.Layers.{schema_fault}
 use Rattle.fault.specs.declared.layers.SchemaFault.TheVariants.{Record}
-use Rattle.view.specs.Meaning.{reading}
+use Rattle.view.proofs.Readings.{reading}
 use Rattle.view.proofs.Outcomes.{left_by, redefined, err_means, no_schema_answer}
 use Rattle.view.proofs.Schemas.{schema_refused, schema_passed}
 use Rattle.view.proofs.view_metadata_builder.ViewMetadataBuilder.add_schema_internal.Goals as goal

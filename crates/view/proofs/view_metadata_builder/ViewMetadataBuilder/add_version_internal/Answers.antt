@@ -3,7 +3,7 @@ use Rattle.std.proofs.lemmas.Int.{to_z-of_z}
 use Rattle.register.specs.Faults.{record_number}
 use Rattle.fault.specs.Layers.{version_fault}
 use Rattle.fault.specs.declared.layers.VersionFault.TheVariants.{Record}
-use Rattle.view.specs.Meaning.{reading}
+use Rattle.view.proofs.Readings.{reading}
 use Rattle.view.proofs.Outcomes.{left_by, redefined, err_means, no_version_answer}
 use Rattle.view.proofs.NewVersions.{version_refused, version_passed}
 use Rattle.view.proofs.view_metadata_builder.ViewMetadataBuilder.add_version_internal.Goals as goal

@@ -1,6 +1,6 @@
 use Rattle.std.proofs.Common.{refl, ◌∙◌}
 use Rattle.fault.specs.Meaning.{fault_of}
-use Rattle.view.specs.Meaning.{reading}
+use Rattle.view.proofs.Readings.{reading}
 use Rattle.view.specs.Steps.{with_uuid}
 use Rattle.view.specs.declared.view_update.ViewUpdate.TheVariants.{AssignUuid}
 use Rattle.view.proofs.Outcomes.{went, unrecorded, noted}

@@ -3,7 +3,7 @@ use Rattle.std.proofs.lemmas.Int.{to_z-of_z}
 use Rattle.register.specs.Registers.{pushed}
 use Rattle.fault.specs.Layers.{schema_fault}
 use Rattle.fault.specs.declared.layers.SchemaFault.TheVariants.{Register, Changes}
-use Rattle.view.specs.Meaning.{reading}
+use Rattle.view.proofs.Readings.{reading}
 use Rattle.view.specs.Steps.{with_schemas, with_last_schema}
 use Rattle.view.proofs.Outcomes.{left_by, unrecorded, noted, err_means, no_schema_answer}
 use Rattle.view.proofs.Schemas.{copied_in, not_entered, entered_noted}

@@ -4,7 +4,7 @@ use Rattle.register.specs.Registers.{pushed}
 use Rattle.version.specs.Meaning.{renumbered, of_schema}
 use Rattle.fault.specs.Layers.{version_fault}
 use Rattle.fault.specs.declared.layers.VersionFault.TheVariants.{Register, Changes}
-use Rattle.view.specs.Meaning.{reading}
+use Rattle.view.proofs.Readings.{reading}
 use Rattle.view.specs.Steps.{with_versions, with_last_version}
 use Rattle.view.specs.declared.view_update.ViewUpdate.TheVariants.{AddViewVersion}
 use Rattle.view.proofs.Outcomes.{left_by, unrecorded, noted, err_means, no_version_answer}

@@ -1,7 +1,8 @@
 use Rattle.std.proofs.Common.{◌≡◌, ℕ, cond, map, sym, ap, ◌∙◌, arith}
 use Rattle.std.proofs.lemmas.List.{take_all}
 use Rattle.model.specs.Build.{additions}
-use Rattle.view.specs.Meaning.{reading, change_of}
+use Rattle.view.specs.Meaning.{change_of}
+use Rattle.view.proofs.Readings.{reading}
 use Rattle.view.proofs.Builds.{additions_more}
 use Rattle.view.proofs.view_metadata_builder.ViewMetadataBuilder.num_added_versions.Goals as goal
 use Rattle.view.proofs.view_metadata_builder.ViewMetadataBuilder.num_added_versions.Goals.{then-adds_version, else-adds_version}

@@ -1,6 +1,7 @@
 use Rattle.std.proofs.Common.{◌≡◌, ◌≤◌, map, take}
 use Rattle.model.specs.Build.{additions}
-use Rattle.view.specs.Meaning.{reading, change_of}
+use Rattle.view.specs.Meaning.{change_of}
+use Rattle.view.proofs.Readings.{reading}
 use Rattle.view.proofs.view_metadata_builder.ViewMetadataBuilder.num_added_versions.Given as goal
 
 abbrev pub invariant-loop-change : goal.invariant-loop-change

@@ -6,7 +6,8 @@ use Rattle.register.specs.Tables.{held_in, room}
 use Rattle.version.specs.Meaning.{version_in, of_schema}
 use Rattle.fault.specs.Layers.{version_fault, changes_fault}
 use Rattle.fault.specs.Meaning.{fault_of}
-use Rattle.view.specs.Meaning.{reading, model_of, schema_in, change_of}
+use Rattle.view.specs.Meaning.{model_of, schema_in, change_of}
+use Rattle.view.proofs.Readings.{reading}
 use Rattle.view.specs.Plans.{counted, version_choice}
 use Rattle.view.proofs.Chosen.{meant_by, plan_first, plan_version, plan_second, plan_last}
 use Rattle.view.proofs.view_metadata_builder.ViewMetadataBuilder.plan_current_version.Goals as goal

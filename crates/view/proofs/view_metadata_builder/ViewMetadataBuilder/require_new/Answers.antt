@@ -3,7 +3,7 @@ use Rattle.std.proofs.lemmas.Int.{to_z-of_z}
 use Rattle.model.specs.Ids.{holds, resolved_id}
 use Rattle.model.specs.Edits.{too_early_for}
 use Rattle.version.specs.Meaning.{entry_of}
-use Rattle.view.specs.Meaning.{reading}
+use Rattle.view.proofs.Readings.{reading}
 use Rattle.view.proofs.NewVersions.{admitted_by}
 use Rattle.view.proofs.view_metadata_builder.ViewMetadataBuilder.require_new.Goals as goal
 

@@ -3,7 +3,7 @@ use Rattle.std.proofs.lemmas.Int.{to_z-of_z}
 use Rattle.model.specs.Ids.{is_id}
 use Rattle.fault.specs.Layers.{schema_fault}
 use Rattle.fault.specs.declared.layers.SchemaFault.TheVariants.{Changes}
-use Rattle.view.specs.Meaning.{reading}
+use Rattle.view.proofs.Readings.{reading}
 use Rattle.view.specs.Steps.{with_last_schema}
 use Rattle.view.specs.declared.view_update.ViewUpdate.TheVariants.{AddSchema}
 use Rattle.view.proofs.Outcomes.{unrecorded, noted, err_means, no_schema_answer}

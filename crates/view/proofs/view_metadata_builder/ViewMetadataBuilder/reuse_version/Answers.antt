@@ -4,7 +4,7 @@ use Rattle.model.specs.Ids.{is_id}
 use Rattle.version.specs.Meaning.{renumbered}
 use Rattle.fault.specs.Layers.{version_fault}
 use Rattle.fault.specs.declared.layers.VersionFault.TheVariants.{Changes}
-use Rattle.view.specs.Meaning.{reading}
+use Rattle.view.proofs.Readings.{reading}
 use Rattle.view.specs.Steps.{with_last_version}
 use Rattle.view.specs.declared.view_update.ViewUpdate.TheVariants.{AddViewVersion}
 use Rattle.view.proofs.Outcomes.{unrecorded, noted, err_means, no_version_answer}

@@ -8,7 +8,8 @@ use Rattle.model.proofs.Basics.{ok_not_err}
 use Rattle.version.specs.Meaning.{version_in, of_schema}
 use Rattle.fault.specs.Layers.{schema_fault, version_fault}
 use Rattle.fault.specs.Meaning.{fault_of}
-use Rattle.view.specs.Meaning.{reading, model_of, schema_in}
+use Rattle.view.specs.Meaning.{model_of, schema_in}
+use Rattle.view.proofs.Readings.{reading}
 use Rattle.view.proofs.Outcomes.{left_by, err_means}
 use Rattle.view.proofs.Edits.{current_edit}
 use Rattle.view.proofs.Foretold.{planned_err, planned_ok, schema_stops, version_stops, all_three}

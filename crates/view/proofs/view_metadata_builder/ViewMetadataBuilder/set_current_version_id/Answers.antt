@@ -7,7 +7,8 @@ use Rattle.model.proofs.Basics.{same_eq}
 use Rattle.register.specs.Tables.{held_in}
 use Rattle.register.proofs.Ids.{same_no}
 use Rattle.fault.specs.Meaning.{fault_of}
-use Rattle.view.specs.Meaning.{reading, model_of}
+use Rattle.view.specs.Meaning.{model_of}
+use Rattle.view.proofs.Readings.{reading}
 use Rattle.view.specs.Steps.{with_current, with_pending}
 use Rattle.view.specs.declared.view_update.ViewUpdate.TheVariants.{SetCurrentViewVersion}
 use Rattle.view.proofs.Outcomes.{left_by, went, unrecorded, noted}

@@ -4,7 +4,7 @@ use Rattle.text.specs.Meaning.{bytes_of}
 use Rattle.text.proofs.Slashes.{trimmed_sound}
 use Rattle.fault.specs.Layers.{text_fault}
 use Rattle.fault.specs.Meaning.{fault_of}
-use Rattle.view.specs.Meaning.{reading}
+use Rattle.view.proofs.Readings.{reading}
 use Rattle.view.specs.Steps.{with_location}
 use Rattle.view.specs.declared.view_update.ViewUpdate.TheVariants.{SetLocation}
 use Rattle.view.proofs.Outcomes.{left_by, went, unrecorded, noted}

@@ -3,7 +3,7 @@ use Rattle.fault.specs.Meaning.{fault_of}
 use Rattle.property.specs.Meaning.{properties_of, room_of}
 use Rattle.property.specs.Outcomes as property
 use Rattle.property.specs.Outcomes.{answered, after_updates}
-use Rattle.view.specs.Meaning.{reading}
+use Rattle.view.proofs.Readings.{reading}
 use Rattle.view.specs.Steps.{with_properties}
 use Rattle.view.specs.declared.view_update.ViewUpdate.TheVariants.{SetProperties}
 use Rattle.view.specs.declared.view_metadata_builder.ViewMetadataBuilder.{ViewMetadataBuilder}

@@ -5,7 +5,7 @@ use Rattle.model.specs.Edits.{too_early_for}
 use Rattle.version.specs.Meaning.{entry_of}
 use Rattle.fault.specs.Layers.{version_fault}
 use Rattle.fault.specs.declared.layers.VersionFault.TheVariants.{Register}
-use Rattle.view.specs.Meaning.{reading}
+use Rattle.view.proofs.Readings.{reading}
 use Rattle.view.proofs.Outcomes.{err_means}
 use Rattle.view.proofs.Chosen.{meant_by, version_chosen, version_new}
 use Rattle.view.proofs.view_metadata_builder.ViewMetadataBuilder.version_choice.Goals as goal
