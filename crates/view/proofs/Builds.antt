@@ -1,5 +1,5 @@
 -- Building, as the model has it. Assumes nothing.
-use Rattle.std.proofs.Common.{◌≡◌, ℕ, ◌+◌, ◌<◌, Bool, true, false, cond, not, ◌&&◌, List, [], ◌∷◌, ◌++◌, map, length, get_or, take, drop, ℤ, Some, None, Ok, Err, Option, sym, refl, ap, ◌∙◌, subst, inl, inr, zero-add, arith}
+use Rattle.std.proofs.Common.{◌≡◌, ℕ, ◌+◌, ◌<◌, Bool, true, false, cond, not, ◌&&◌, List, [], ◌∷◌, ◌++◌, map, length, get_or, take, drop, ℤ, Some, None, IsErrAnd, Ok, Err, Option, Result, sym, refl, ap, ◌∙◌, subst, inl, inr, zero-add, arith}
 use mathlib.Core.List.{map-map}
 use Rattle.std.specs.Option.{option_map}
 use Rattle.std.proofs.lemmas.List.{length-map, length-take, length-append, take_more, take_at, map_push}
@@ -30,7 +30,9 @@ use Rattle.view.specs.declared.view_update.ViewUpdate.TheVariants.{AssignUuid, S
 use Rattle.view.specs.Meaning.{Reading, model_of, metadata, change_of, schema_of}
 use Rattle.view.proofs.Readings.{reading}
 use Rattle.view.specs.Steps.{with_log, with_versions}
-use Rattle.view.specs.Finished.{adds_version, logged, changes_of, HoldsBuild}
+use Rattle.fault.specs.declared.fault.Fault as code
+use Rattle.fault.specs.Meaning.{fault_of}
+use Rattle.view.specs.Finished.{adds_version, logged, changes_of, build_after, HoldsBuild}
 use Rattle.view.proofs.Recording.{one_more}
 
 -- one more change
@@ -127,6 +129,11 @@ module _ {X : Type 0} (i : identified.Ghosts X) (n : numbered.Ghosts X) (k : sch
   -- the log has no room
   abbrev log_over : Bool
   log_over = over (room b.version_log) (with_entry (map entry_of (held_in b.version_log)) (option_map entry_of b.history_entry))
+
+  -- the exit of a `?`
+  pub built_err : (s : Result (Unit {0}) code.Fault) (f : code.Fault) → IsErrAnd s (λ y. y ≡ f) → build_after G b s ≡ Err (fault_of f)
+  built_err (Err y) f e = ap (λ z. Err (fault_of z)) e
+  built_err (Ok a) f e = absurd e
 
   pub build_without : current ≡ None → Err (fault no_current_version builder_part) ≡ build (model_of G b)
   unfolding build

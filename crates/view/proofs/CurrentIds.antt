@@ -1,5 +1,5 @@
 -- Setting the id of the current version, as the model has it. Assumes nothing.
-use Rattle.std.proofs.Common.{◌≡◌, ℕ, ◌≤◌, min, true, false, cond, leb, List, [], ◌∷◌, map, length, drop, ℤ, Some, None, Ok, Err, Option, sym, refl, ap, ◌∙◌, inl, inr, arith}
+use Rattle.std.proofs.Common.{◌≡◌, ℕ, ◌≤◌, min, true, false, cond, leb, List, [], ◌∷◌, map, length, drop, ℤ, Some, None, MatchOption, Ok, Err, Option, sym, refl, ap, ◌∙◌, inl, inr, arith}
 use mathlib.Core.List.{map-map}
 use Rattle.std.specs.Option.{option_map}
 use Rattle.std.proofs.lemmas.List.{drop_all, drop-map}
@@ -11,7 +11,7 @@ use Rattle.model.specs.Refusals.{fault, no_version_added, version_not_held, buil
 use Rattle.model.specs.State.{entered, set_current_version_id}
 use Rattle.model.specs.Updates.{recorded}
 use Rattle.model.specs.Edits.{edit, after_set_current, log_entry, log_entry_of}
-use Rattle.model.specs.Version.{version_ids}
+use Rattle.model.specs.Version.{LogEntry, version_ids}
 use Rattle.register.specs.Tables.{held_in}
 use Rattle.version.specs.declared.view_version.ViewVersion.{ViewVersion}
 use Rattle.version.specs.declared.view_version.ViewVersionLog.{ViewVersionLog}
@@ -40,6 +40,11 @@ drop_min n xs =
           let f : length xs ≤ n = grind (arith, nat_tests) in
           drop_all (min n (length xs)) xs e ∙ sym (drop_all n xs f)
     ]
+
+-- the entry with the time of the version that was found, or the clock's
+pub entry_timed : (block : Bytes) (i clock t : ℤ) (o : Option ViewVersion) → MatchOption o (t ≡ clock) (λ v. t ≡ v.timestamp_ms) → ◌≡◌ {A = LogEntry} (record { id = i; time = t }) (log_entry_of i clock (option_map (version_of block) o))
+entry_timed block i clock t None e = ap (λ z. record { id = i; time = z }) e
+entry_timed block i clock t (Some v) e = ap (λ z. record { id = i; time = z }) e
 
 module _ {X : Type 0} (g : Reading X) (b : ViewMetadataBuilder X) (clock : ℤ) where
   abbrev block : Bytes

@@ -3,7 +3,6 @@ pub mod Recording
 pub mod Outcomes
 pub mod Mapped
 pub mod NewIds
-pub mod Edits
 pub mod Location
 pub mod Schemas
 pub mod Starts

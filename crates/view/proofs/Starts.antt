@@ -14,8 +14,8 @@ use Rattle.fault.specs.Layers.{text_fault}
 use Rattle.fault.specs.Meaning.{fault_of}
 use Rattle.view.specs.declared.begin.Beginning.{Beginning}
 use Rattle.view.specs.declared.view_metadata_builder.ViewMetadataBuilder.{ViewMetadataBuilder}
-use Rattle.view.specs.Beginnings.{tested, begun, over_text}
-use Rattle.view.specs.Meaning.{Reading, model_of, Applied}
+use Rattle.view.specs.Beginnings.{begun, over_text}
+use Rattle.view.specs.Meaning.{Reading, meant, model_of, Applied}
 use Rattle.view.proofs.Outcomes.{went}
 
 -- the first test refuses, whatever comes after it
@@ -64,7 +64,7 @@ bare u ts vs es ps cs i j k l m =
     state_of (metadata_of 1 u [] last_added ts vs es ps) 0 None None None None cs (record { schemas = i; versions = j; version_log = k; properties = l; changes = m })
 
 -- the format that it has, or a refusal; nothing changes
-pub format_upgraded : {X : Type 0} (g : Reading X) (b : ViewMetadataBuilder X) (n : ℕ) (clock : ℤ) (r : Result (Unit {0}) Fault) → tested r ≡ format_test n → Applied g (upgrade_format n) clock b r b
+pub format_upgraded : {X : Type 0} (g : Reading X) (b : ViewMetadataBuilder X) (n : ℕ) (clock : ℤ) (r : Result (Unit {0}) Fault) → meant r ≡ format_test n → Applied g (upgrade_format n) clock b r b
 unfolding edit
-format_upgraded g b n clock (Ok a) e = went g fault_of _ b a b (passed_first (not (eqb n 1)) (fault unknown_format builder_part) tt a (Ok (model_of g b)) e)
-format_upgraded g b n clock (Err f) e = record { as_defined = sym (refused_first (not (eqb n 1)) (fault unknown_format builder_part) (fault_of f) tt (Ok (model_of g b)) e); refused = refl }
+format_upgraded g b n clock (Ok a) e = went g _ b a b refl (passed_first (not (eqb n 1)) (fault unknown_format builder_part) tt a (Ok (model_of g b)) e)
+format_upgraded g b n clock (Err f) e = record { as_defined = sym (refused_first (not (eqb n 1)) (fault unknown_format builder_part) (fault_of f) tt (Ok (model_of g b)) e); block = refl; refused = refl }

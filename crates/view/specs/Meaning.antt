@@ -4,11 +4,14 @@ use Rattle.std.specs.Option.{option_map}
 use Rattle.model.specs.Bytes.{Bytes}
 use Rattle.model.specs.Version.{Schema}
 use Rattle.model.specs.Refusals as refusals
+use Rattle.model.specs.Refusals.{fault}
 use Rattle.model.specs.State.{SchemaIn, Edit, Change, Metadata, Rooms, State, uuid_assigned, location_set, schema_added, version_added, current_version_id_set, properties_set, properties_removed}
 use Rattle.model.specs.Updates.{metadata_of, state_of}
 use Rattle.model.specs.Edits.{edit}
 use Rattle.text.specs.Meaning.{bytes_of, text_in}
 use Rattle.register.specs.Tables.{held_in, room}
+use Rattle.register.specs.Faults.{register_number}
+use Rattle.register.specs.declared.fault.RegisterFault.{RegisterFault}
 use Rattle.version.specs.Meaning.{version_of, version_in, entry_of}
 use Rattle.text.specs.Properties.{property_in}
 use Rattle.property.specs.Meaning.{properties_of, room_of}
@@ -78,31 +81,37 @@ module _ {X : Type 0} (g : Reading X) where
       b.last_added_schema_id b.last_added_version_id (option_map entry_of b.history_entry)
       (map (change_of block) (held_in b.changes)) (rooms b)
 
-  -- what a call made of a builder, by its answer and the builder at exit; `means` says what its faults are
-  abbrev pub outcome : {A E : Type 0} → (E → refusals.Fault) → Result A E → ViewMetadataBuilder X → Result (State g.Content) refusals.Fault
-  outcome means (Ok a) b = Ok (model_of b)
-  outcome means (Err f) b = Err (means f)
+  -- what a call made of a builder, by its answer and the builder at exit
+  abbrev pub outcome : {A : Type 0} → Result A Fault → ViewMetadataBuilder X → Result (State g.Content) refusals.Fault
+  outcome (Ok a) b = Ok (model_of b)
+  outcome (Err f) b = Err (fault_of f)
+
+-- an answer, with its fault as the rules have it
+abbrev pub meant : {A : Type 0} → Result A Fault → Result A refusals.Fault
+meant (Ok a) = Ok a
+meant (Err f) = Err (fault_of f)
+
+-- the id that a register gives, or its fault, in that part
+abbrev pub given : refusals.Part → Result ℤ RegisterFault → Result ℤ refusals.Fault
+given part (Ok i) = Ok i
+given part (Err f) = Err (fault (register_number f) part)
 
 -- a refusal leaves the builder as it was, slot for slot
-abbrev pub unchanged_if_refused : {X A E : Type 0} → Result A E → ViewMetadataBuilder X → ViewMetadataBuilder X → Type 0
+abbrev pub unchanged_if_refused : {X A : Type 0} → Result A Fault → ViewMetadataBuilder X → ViewMetadataBuilder X → Type 0
 unchanged_if_refused (Ok a) b after = Unit {0}
 unchanged_if_refused (Err f) b after = after ≡ b
 
--- an accepted add of a schema answers the id last added
-abbrev pub answers_last_schema : {X E : Type 0} → Result ℤ E → ViewMetadataBuilder X → Type 0
-answers_last_schema (Ok i) b = b.last_added_schema_id ≡ Some i
-answers_last_schema (Err f) b = Unit {0}
+-- an accepted add answers the id that is now the last added
+abbrev pub answers_last : Result ℤ Fault → Option ℤ → Type 0
+answers_last (Ok i) last = last ≡ Some i
+answers_last (Err f) last = Unit {0}
 
--- an accepted add of a version answers the id last added
-abbrev pub answers_last_version : {X E : Type 0} → Result ℤ E → ViewMetadataBuilder X → Type 0
-answers_last_version (Ok i) b = b.last_added_version_id ≡ Some i
-answers_last_version (Err f) b = Unit {0}
-
--- a call did what is defined, and left the builder as it was where it was refused
-pub record Did {X A E : Type 0} (g : Reading X) (means : E → refusals.Fault) (defined : Result (State g.Content) refusals.Fault) (before : ViewMetadataBuilder X) (r : Result A E) (after : ViewMetadataBuilder X) : Type 0 where
-  pub as_defined : outcome g means r after ≡ defined
+-- a call did what is defined, kept the text block, and left the builder as it was where it was refused
+pub record Did {X A : Type 0} (g : Reading X) (defined : Result (State g.Content) refusals.Fault) (before : ViewMetadataBuilder X) (r : Result A Fault) (after : ViewMetadataBuilder X) : Type 0 where
+  pub as_defined : outcome g r after ≡ defined
+  pub block : after.text.now ≡ before.text.now
   pub refused : unchanged_if_refused r before after
 
 -- a call did what the edit is defined to do at that time of the clock
 abbrev pub Applied : {X A : Type 0} (g : Reading X) → Edit g.Content → ℤ → ViewMetadataBuilder X → Result A Fault → ViewMetadataBuilder X → Type 0
-Applied g e clock before r after = Did g fault_of (edit g.alike (model_of g before) e clock) before r after
+Applied g e clock before r after = Did g (edit g.alike (model_of g before) e clock) before r after

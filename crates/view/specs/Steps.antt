@@ -1,14 +1,12 @@
 -- A builder with one part replaced. Assumes nothing.
-use Rattle.std.specs.Prelude.{cond, ℤ, Some, Ok, Err, Option, Result}
+use Rattle.std.specs.Prelude.{ℤ, Some, Option}
 use Rattle.model.specs.Bytes.{Bytes}
 use Rattle.text.specs.declared.text.Text.{Text}
 use Rattle.register.specs.declared.table.Table.{Table}
 use Rattle.register.specs.declared.register.Register.{Register}
-use Rattle.register.specs.Tables.{is_full}
 use Rattle.version.specs.declared.view_version.ViewVersion.{ViewVersion}
 use Rattle.version.specs.declared.view_version.ViewVersionLog.{ViewVersionLog}
 use Rattle.property.specs.declared.property.Properties.{Properties}
-use Rattle.fault.specs.declared.layers.ChangesFull.{ChangesFull}
 use Rattle.view.specs.declared.view_update.ViewUpdate.{ViewUpdate}
 use Rattle.view.specs.declared.view_metadata_builder.ViewMetadataBuilder.{ViewMetadataBuilder}
 
@@ -75,7 +73,3 @@ module _ {X : Type 0} where
   -- the builder with another pending log entry
   abbrev pub with_pending : Option ViewVersionLog → ViewMetadataBuilder X → ViewMetadataBuilder X
   with_pending e b = builder_of b b.uuid b.location b.current_version_id b.schemas b.versions b.version_log b.properties b.changes b.last_added_schema_id b.last_added_version_id e
-
-  -- what recording one more change answers
-  abbrev pub record_answer : ViewMetadataBuilder X → Result (Unit {0}) ChangesFull
-  record_answer b = cond (is_full b.changes) (Err (record {})) (Ok tt)

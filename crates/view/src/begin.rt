@@ -4,8 +4,8 @@ ghost use Rattle.model.specs.State.{upgrade_format};
 ghost use Rattle.model.specs.Start.{to_begin, begin_or_open, started, empty};
 ghost use Rattle.model.specs.Texts.{block_fits};
 ghost use Rattle.register.specs.Tables.{room};
-ghost use Rattle.view.specs.Beginnings.{begun, over_text, tested};
-ghost use Rattle.view.specs.Meaning.{model_of, Applied};
+ghost use Rattle.view.specs.Beginnings.{begun, over_text};
+ghost use Rattle.view.specs.Meaning.{meant, model_of, Applied};
 
 use super::view_metadata_builder::ViewMetadataBuilder;
 use super::view_update::ViewUpdate;
@@ -44,16 +44,12 @@ pub struct Beginning<'t> {
 
 // Refuses any other format version.
 fn check_format(format_version: u32) -> Result<(), Fault>
-    ensures { tested result ≡ refuse (not (nat_eq format_version 1)) (fault unknown_format builder_part) (Ok tt) }
+    ensures { meant result ≡ refuse (not (nat_eq format_version 1)) (fault unknown_format builder_part) (Ok tt) }
 {
     if format_version == FORMAT_VERSION {
         return Ok(());
     }
-    Err(Fault {
-        refusal: Refusal::UnknownFormat,
-        part: Part::Builder,
-        position: 0,
-    })
+    Err(Fault::new(Refusal::UnknownFormat, Part::Builder))
 }
 
 // Begins a view without a location, schemas or versions.

@@ -97,33 +97,18 @@ impl<'t, 'a, 'v, S: SchemaKind> ViewMetadataBuilder<'t, 'a, 'v, S> {
     fn require_buildable(&self) -> Result<(), Fault>
         ensures { build_after S.SchemaKind self.now result ≡ build (model_of S.SchemaKind self.now) }
     {
-        let Some(current) = find(self.versions.table.items(), self.current_version_id) else {
-            return Err(Fault {
-                refusal: Refusal::NoCurrentVersion,
-                part: Part::Builder,
-                position: 0,
-            });
-        };
+        let current = find(self.versions.table.items(), self.current_version_id).ok_or(Fault::new(
+            Refusal::NoCurrentVersion,
+            Part::Builder,
+        ))?;
         if !holds_id(self.schemas.table.items(), current.schema_id) {
-            return Err(Fault {
-                refusal: Refusal::SchemaNotHeld,
-                part: Part::Versions,
-                position: 0,
-            });
+            return Err(Fault::new(Refusal::SchemaNotHeld, Part::Versions));
         }
         if self.would_lose_dialect(&current) {
-            return Err(Fault {
-                refusal: Refusal::LostDialect,
-                part: Part::Builder,
-                position: 0,
-            });
+            return Err(Fault::new(Refusal::LostDialect, Part::Builder));
         }
         if self.is_log_over() {
-            return Err(Fault {
-                refusal: Refusal::LimitReached,
-                part: Part::Log,
-                position: 0,
-            });
+            return Err(Fault::new(Refusal::LimitReached, Part::Log));
         }
         Ok(())
     }

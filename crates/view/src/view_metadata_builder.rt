@@ -1,17 +1,20 @@
-ghost use Rattle.std.specs.Prelude.{◌≡◌, ℤ, Some, None};
+ghost use Rattle.std.specs.Prelude.{◌≡◌, if◌then◌else◌, ℤ, Some, None, Ok};
 ghost use Rattle.model.specs.State.{set_location, add_schema};
-ghost use Rattle.model.specs.Edits.{reuse_or_add_schema, after_add_schema};
-ghost use Rattle.model.specs.Ids.{is_id, resolved_id};
-ghost use Rattle.fault.specs.Layers.{schema_fault};
+ghost use Rattle.model.specs.Edits.{reuse_or_add_schema};
+ghost use Rattle.model.specs.Ids.{is_id, last_added, resolved_id};
+ghost use Rattle.model.specs.Refusals.{refuse, refuse_with};
+ghost use Rattle.fault.specs.Layers.{changes_fault};
+ghost use Rattle.fault.specs.Meaning.{part_of};
 ghost use Rattle.text.specs.Meaning.{text_in};
-ghost use Rattle.register.specs.Tables.{after_push};
-ghost use Rattle.view.specs.Meaning.{model_of, schema_in, Applied, Did, answers_last_schema};
-ghost use Rattle.view.specs.Steps.{with_changes, record_answer};
+ghost use Rattle.register.specs.Tables.{held_in, is_full, after_push};
+ghost use Rattle.register.specs.Registers.{same_id, new_id};
+ghost use Rattle.view.specs.Meaning.{meant, given, model_of, schema_in, Applied, Did, answers_last};
+ghost use Rattle.view.specs.Steps.{with_changes};
 
 use super::view_update::ViewUpdate;
-use fault::fault::Fault;
-use fault::layers::{ChangesFull, SchemaFault};
+use fault::fault::{Fault, Part, Refusal};
 use property::property::Properties;
+use register::numbered::Numbered;
 use register::register::Register;
 use register::table::Table;
 use schema::kind::SchemaKind;
@@ -43,14 +46,14 @@ pub struct ViewMetadataBuilder<'t, 'a, 'v, S> {
 
 impl<'t, 'a, 'v, S: SchemaKind> ViewMetadataBuilder<'t, 'a, 'v, S> {
     // Records a change where there is room for it.
-    pub(crate) fn record(&mut self, change: ViewUpdate<'v, S>) -> Result<(), ChangesFull>
-        ensures answer { result ≡ record_answer self.old }
+    pub(crate) fn record(&mut self, change: ViewUpdate<'v, S>) -> Result<(), Fault>
+        ensures answer { meant result ≡ refuse (is_full self.old.changes) changes_fault (Ok tt) }
         ensures builder { self.new ≡ with_changes (after_push self.old.changes change.entry) self.old }
     {
         if self.changes.push(change) {
             Ok(())
         } else {
-            Err(ChangesFull)
+            Err(Fault::new(Refusal::LimitReached, Part::Changes))
         }
     }
 
@@ -69,10 +72,9 @@ impl<'t, 'a, 'v, S: SchemaKind> ViewMetadataBuilder<'t, 'a, 'v, S> {
     }
 
     // Reuse of the held schema with that id.
-    fn reuse_schema(&mut self, schema: S, id: i32) -> Result<i32, SchemaFault>
-        ensures did { Did S.SchemaKind schema_fault (reuse_or_add_schema (model_of S.SchemaKind self.old) (schema_in S.SchemaKind self.old.text.now schema) (Some id)) self.old result self.new }
-        ensures answer { answers_last_schema result self.new }
-        ensures block { self.new.text.now ≡ self.old.text.now }
+    fn reuse_schema(&mut self, schema: S, id: i32) -> Result<i32, Fault>
+        ensures did { Did S.SchemaKind (reuse_or_add_schema (model_of S.SchemaKind self.old) (schema_in S.SchemaKind self.old.text.now schema) (Some id)) self.old result self.new }
+        ensures answer { answers_last result self.new.last_added_schema_id }
     {
         if is_last(self.last_added_schema_id, id) {
             return Ok(id);
@@ -86,12 +88,11 @@ impl<'t, 'a, 'v, S: SchemaKind> ViewMetadataBuilder<'t, 'a, 'v, S> {
     }
 
     // A new schema, under the next id.
-    fn enter_schema(&mut self, schema: S) -> Result<i32, SchemaFault>
-        ensures did { Did S.SchemaKind schema_fault (reuse_or_add_schema (model_of S.SchemaKind self.old) (schema_in S.SchemaKind self.old.text.now schema) None) self.old result self.new }
-        ensures answer { answers_last_schema result self.new }
-        ensures block { self.new.text.now ≡ self.old.text.now }
+    fn enter_schema(&mut self, schema: S) -> Result<i32, Fault>
+        ensures did { Did S.SchemaKind (reuse_or_add_schema (model_of S.SchemaKind self.old) (schema_in S.SchemaKind self.old.text.now schema) None) self.old result self.new }
+        ensures answer { answers_last result self.new.last_added_schema_id }
     {
-        let id = self.schemas.next_id()?;
+        let id = next_id(&self.schemas, Part::Schemas)?;
         let stored = schema.with_id(id);
         let last_column_id = Some(stored.highest_field_id(self.text));
         self.record(ViewUpdate::AddSchema {
@@ -103,25 +104,40 @@ impl<'t, 'a, 'v, S: SchemaKind> ViewMetadataBuilder<'t, 'a, 'v, S> {
         Ok(id)
     }
 
-    pub(crate) fn add_schema_internal(&mut self, schema: S) -> Result<i32, SchemaFault>
-        ensures did { Did S.SchemaKind schema_fault (after_add_schema S.Numbered.alike (model_of S.SchemaKind self.old) (schema_in S.SchemaKind self.old.text.now schema)) self.old result self.new }
-        ensures answer { answers_last_schema result self.new }
-        ensures block { self.new.text.now ≡ self.old.text.now }
+    // Adds a schema, or reuses the held one with the same content; answers its id.
+    pub fn add_schema(&mut self, schema: S) -> Result<i32, Fault>
+        ensures did { (clock : ℤ) → Applied S.SchemaKind (add_schema (schema_in S.SchemaKind self.old.text.now schema)) clock self.old result self.new }
+        ensures answer { answers_last result self.new.last_added_schema_id }
     {
-        schema.check(self.text)?;
-        match self.schemas.lowest_same(&schema, self.text) {
+        match held_same(&self.schemas, &schema, self.text, Part::Schemas)? {
             Some(id) => self.reuse_schema(schema, id),
             None => self.enter_schema(schema),
         }
     }
+}
 
-    // Adds a schema, or reuses the held one with the same content; answers its id.
-    pub fn add_schema(&mut self, schema: S) -> Result<i32, Fault>
-        ensures did { (clock : ℤ) → Applied S.SchemaKind (add_schema (schema_in S.SchemaKind self.old.text.now schema)) clock self.old result self.new }
-        ensures answer { answers_last_schema result self.new }
-    {
-        Ok(self.add_schema_internal(schema)?)
-    }
+// The lowest id held with the same content, where the thing passes its own tests.
+pub(crate) fn held_same<T: Numbered>(
+    register: &Register<'_, T>,
+    thing: &T,
+    block: &[u8],
+    part: Part,
+) -> Result<Option<i32>, Fault>
+    ensures { meant result ≡ refuse_with (part_of part) (T.verdict block.now thing.now) (Ok (same_id T.Identified T.Numbered.own block.now thing.now (held_in register.now.table))) }
+{
+    thing
+        .check(block)
+        .map_err(|fault| Fault::new(fault.into(), part))?;
+    Ok(register.lowest_same(thing, block))
+}
+
+// The id that a new thing gets.
+pub(crate) fn next_id<T: Numbered>(register: &Register<'_, T>, part: Part) -> Result<i32, Fault>
+    ensures { meant result ≡ given (part_of part) (new_id T.Identified T.Numbered.own register.now.table) }
+{
+    register
+        .next_id()
+        .map_err(|fault| Fault::new(fault.into(), part))
 }
 
 // The last added id where the id is -1, else the id itself.
@@ -135,8 +151,12 @@ pub(crate) fn resolved(id: i32, last: Option<i32>) -> Option<i32>
 pub(crate) fn is_last(last: Option<i32>, id: i32) -> bool
     ensures { result ≡ is_id last id }
 {
-    match last {
-        None => false,
-        Some(j) => j == id,
-    }
+    last == Some(id)
+}
+
+// The id as it is recorded: -1 where it is the last added.
+pub(crate) fn as_recorded(id: i32, last: Option<i32>) -> i32
+    ensures { result ≡ (if is_id last id then last_added else id) }
+{
+    if is_last(last, id) { LAST_ADDED } else { id }
 }

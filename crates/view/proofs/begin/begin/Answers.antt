@@ -9,7 +9,7 @@ use Rattle.view.proofs.begin.begin.Goals as goal
 pub returns-in_err-check_format : goal.returns-in_err-check_format
 returns-in_err-check_format c =
     let f = c.in_err-check_format.field-0.0 in
-    let q = err_means fault_of c.from_residual.result f c.from_residual.ensures.1 in
+    let q = err_means c.from_residual.result f c.from_residual.ensures.1 in
     record {
       answer =
           begun_by c.from_residual.result (fault_of f) q
