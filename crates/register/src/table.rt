@@ -1,5 +1,5 @@
 ghost use Rattle.std.specs.Prelude.{◌≡◌, not};
-ghost use Rattle.register.specs.Tables.{held_in, is_full, after_push, kept_from};
+ghost use Rattle.register.specs.Tables.{held_in, room, is_full, after_push, kept_from};
 
 // A bounded list: the first slots of a lent slice.
 #[derive(Drop)]
@@ -13,6 +13,7 @@ impl<'a, T> Table<'a, T> {
     pub fn over<const N: usize>(slots: &'a mut [T; N]) -> Table<'a, T>
         ensures none { result.held ≡ 0 }
         ensures slots { result.slots.now ≡ slots.old }
+        ensures room { room result ≡ N }
     {
         Table { slots, held: 0 }
     }

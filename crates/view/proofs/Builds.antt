@@ -1,15 +1,16 @@
 -- Building, as the model has it. Assumes nothing.
-use Rattle.std.proofs.Common.{◌≡◌, ℕ, ◌+◌, ◌<◌, Bool, true, false, cond, not, ◌&&◌, List, [], ◌∷◌, ◌++◌, map, length, get_or, take, drop, ℤ, Some, None, IsErrAnd, Ok, Err, Option, Result, sym, refl, ap, ◌∙◌, subst, inl, inr, zero-add, arith}
+use Rattle.std.proofs.Common.{◌≡◌, ℕ, count_by, ◌+◌, Bool, true, false, cond, not, ◌&&◌, List, [], ◌∷◌, map, length, drop, ℤ, Some, None, IsErrAnd, Ok, Err, Option, Result, sym, refl, ap, ◌∙◌, subst, inl, inr, arith}
 use mathlib.Core.List.{map-map}
 use Rattle.std.specs.Option.{option_map}
-use Rattle.std.proofs.lemmas.List.{length-map, length-take, length-append, take_more, take_at, map_push}
+use Rattle.std.proofs.lemmas.List.{length-map, length-take, length-append, take_at}
+use Rattle.std.proofs.lemmas.List.Recursion.{is_count_by}
 use Rattle.std.proofs.lemmas.Bool.{cases_Bool}
 use Rattle.std.proofs.lemmas.Bool.Decides.{nat_tests}
 use Rattle.model.specs.Bytes.{Bytes}
 use Rattle.model.specs.Ids.{find, holds, same_number}
 use Rattle.model.specs.Refusals.{Fault, fault, refuse, over, no_current_version, schema_not_held, lost_dialect, limit_reached, versions_part, log_part, builder_part}
 use Rattle.model.specs.Settings.{drop_key}
-use Rattle.model.specs.State.{State, Metadata, Change, uuid_assigned, location_set, schema_added, version_added, current_version_id_set, properties_set, properties_removed}
+use Rattle.model.specs.State.{State, Metadata, Change}
 use Rattle.model.specs.Version.{Version, schema_ids, version_ids}
 use Rattle.model.specs.Updates.{metadata_of}
 use Rattle.model.specs.Build.{build, build_at, built_metadata, kept_versions, kept_log, with_entry, additions, how_many_to_keep, history_size, unexpired, look_up, drop_allowed, loses_dialect}
@@ -35,34 +36,19 @@ use Rattle.fault.specs.Meaning.{fault_of}
 use Rattle.view.specs.Finished.{adds_version, logged, changes_of, build_after, HoldsBuild}
 use Rattle.view.proofs.Recording.{one_more}
 
--- one more change
-additions_push : {C : Type 0} (cs : List (Change C)) (c : Change C) → additions (cs ++ c ∷ []) ≡ additions cs + additions (c ∷ [])
-additions_push [] c = sym (zero-add (additions (c ∷ [])))
-additions_push (uuid_assigned u ∷ cs) c = additions_push cs c
-additions_push (location_set t ∷ cs) c = additions_push cs c
-additions_push (schema_added x i ∷ cs) c = additions_push cs c
-additions_push (version_added x ∷ cs) c = omega (arith, additions_push cs c)
-additions_push (current_version_id_set i ∷ cs) c = additions_push cs c
-additions_push (properties_set ps ∷ cs) c = additions_push cs c
-additions_push (properties_removed ks ∷ cs) c = additions_push cs c
-
 module _ {X : Type 0} (g : Reading X) (block : Bytes) where
-  one_addition : (u : ViewUpdate X) → additions (change_of g block u ∷ []) ≡ cond (adds_version u) 1 0
-  one_addition (AssignUuid u) = refl
-  one_addition (SetLocation t) = refl
-  one_addition (AddSchema x i) = refl
-  one_addition (AddViewVersion v) = refl
-  one_addition (SetCurrentViewVersion i) = refl
-  one_addition (SetProperties ps) = refl
-  one_addition (RemoveProperties ks) = refl
+  -- those that add a version, counted
+  additions_cons : (u : ViewUpdate X) (us : List (ViewUpdate X)) → additions (map (change_of g block) (u ∷ us)) ≡ cond (adds_version u) (1 + additions (map (change_of g block) us)) (additions (map (change_of g block) us))
+  additions_cons (AssignUuid u) us = refl
+  additions_cons (SetLocation t) us = refl
+  additions_cons (AddSchema x i) us = refl
+  additions_cons (AddViewVersion v) us = omega arith
+  additions_cons (SetCurrentViewVersion i) us = refl
+  additions_cons (SetProperties ps) us = refl
+  additions_cons (RemoveProperties ks) us = refl
 
-  -- the loop over the changes, one on
-  pub additions_more : (us : List (ViewUpdate X)) (i : ℕ) (u : ViewUpdate X) → i < length us → u ≡ get_or us i u →
-      additions (map (change_of g block) (take (i + 1) us)) ≡ additions (map (change_of g block) (take i us)) + cond (adds_version u) 1 0
-  additions_more us i u h e =
-      ap (λ vs. additions (map (change_of g block) vs)) (take_more us i u h ∙ ap (λ v. take i us ++ v ∷ []) (sym e))
-      ∙ (ap additions (map_push (change_of g block) (take i us) u)
-      ∙ (additions_push (map (change_of g block) (take i us)) (change_of g block u) ∙ ap (λ n. additions (map (change_of g block) (take i us)) + n) (one_addition u)))
+  pub additions_counted : (us : List (ViewUpdate X)) → additions (map (change_of g block) us) ≡ count_by adds_version us
+  additions_counted = is_count_by (λ us. additions (map (change_of g block) us)) adds_version refl additions_cons
 
 module _ (t : Table ViewVersionLog) (o : Option ViewVersionLog) where
   -- without a pending entry the log has its room

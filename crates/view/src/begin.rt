@@ -3,7 +3,6 @@ ghost use Rattle.model.specs.Refusals.{fault, refuse, unknown_format, builder_pa
 ghost use Rattle.model.specs.State.{upgrade_format};
 ghost use Rattle.model.specs.Start.{to_begin, begin_or_open, started, empty};
 ghost use Rattle.model.specs.Texts.{block_fits};
-ghost use Rattle.register.specs.Tables.{room};
 ghost use Rattle.view.specs.Beginnings.{begun, over_text};
 ghost use Rattle.view.specs.Meaning.{meant, model_of, Applied};
 
@@ -11,10 +10,10 @@ use super::view_metadata_builder::ViewMetadataBuilder;
 use super::view_update::ViewUpdate;
 use fault::fault::{Fault, Part, Refusal};
 use property::property::Properties;
-use text::property::Property;
 use register::register::Register;
 use register::table::Table;
 use schema::kind::SchemaKind;
+use text::property::Property;
 use text::text::{Text, check_block};
 use version::view_version::{ViewVersion, ViewVersionLog};
 
@@ -66,17 +65,9 @@ pub fn begin<'t>(
     Ok(Beginning { text, uuid })
 }
 
-// An empty table over the whole of a lent array.
-fn empty_table<'a, T, const N: usize>(slots: &'a mut [T; N]) -> Table<'a, T>
-    ensures none { result.held ≡ 0 }
-    ensures slots { result.slots.now ≡ slots.old }
-    ensures room { room result ≡ N }
-{
-    Table { slots, held: 0 }
-}
-
 impl<'t> Beginning<'t> {
     // The builder, with nothing in the lent tables yet.
+    // Kept: five arrays and not one struct of them; of an array of S behind a field it is not known that it fits in memory, and lend requires nothing.
     pub fn lend<'a, 'v, S: SchemaKind>(
         self,
         schemas: &'a mut [S; MAX_SCHEMAS],
@@ -93,11 +84,11 @@ impl<'t> Beginning<'t> {
         ensures properties { result.properties.records.now ≡ properties.old }
         ensures changes { result.changes.slots.now ≡ changes.old }
     {
-        let schemas = empty_table(schemas);
-        let versions = empty_table(versions);
-        let version_log = empty_table(version_log);
+        let schemas = Table::over(schemas);
+        let versions = Table::over(versions);
+        let version_log = Table::over(version_log);
         let properties = Properties::over(properties);
-        let changes = empty_table(changes);
+        let changes = Table::over(changes);
         ViewMetadataBuilder {
             text: self.text,
             uuid: self.uuid,

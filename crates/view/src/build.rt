@@ -1,4 +1,4 @@
-ghost use Rattle.std.specs.Prelude.{◌≡◌, false, not, ◌&&◌, map};
+ghost use Rattle.std.specs.Prelude.{◌≡◌, false, not, ◌&&◌, map, count_by};
 ghost use Rattle.std.specs.Option.{option_map};
 ghost use Rattle.model.specs.Refusals.{over};
 ghost use Rattle.model.specs.Settings.{drop_key};
@@ -45,14 +45,14 @@ pub struct Refused<'t, 'a, 'v, S> {
     pub builder: ViewMetadataBuilder<'t, 'a, 'v, S>,
 }
 
-// Whether the change adds a version.
-fn adds_version<S>(change: &ViewUpdate<'_, S>) -> bool
-    ensures { result ≡ adds_version change.now }
+// How many of the changes add a version.
+fn num_adding<S: SchemaKind>(changes: &[ViewUpdate<'_, S>]) -> usize
+    ensures { result ≡ count_by adds_version changes.now }
 {
-    match change {
-        ViewUpdate::AddViewVersion { .. } => true,
-        _ => false,
-    }
+    changes
+        .iter()
+        .filter(|change| matches!(change, ViewUpdate::AddViewVersion { .. }))
+        .count()
 }
 
 impl<'t, 'a, 'v, S: SchemaKind> ViewMetadataBuilder<'t, 'a, 'v, S> {
@@ -60,37 +60,23 @@ impl<'t, 'a, 'v, S: SchemaKind> ViewMetadataBuilder<'t, 'a, 'v, S> {
     fn num_added_versions(&self) -> usize
         ensures { result ≡ additions (changes_of S.SchemaKind self.now) }
     {
-        let changes = self.changes.items();
-        let mut count = 0;
-        for change in changes {
-            if adds_version(change) {
-                count += 1;
-            }
-        }
-        count
+        num_adding(self.changes.items())
     }
 
     // Whether this version as the current one would lose a dialect, and none may be lost.
     fn would_lose_dialect(&self, current: &ViewVersion) -> bool
         ensures { result ≡ (not (drop_allowed (look_up drop_key (properties_of self.now.text.now self.now.properties))) && loses_dialect (option_map (version_of self.now.text.now) self.now.previous_view_version) (content_of self.now.text.now current.now)) }
     {
-        if self.properties.drop_allowed(self.text) {
-            return false;
-        }
-        match self.previous_view_version {
-            None => false,
-            Some(previous) => loses_dialect(&previous, current, self.text),
-        }
+        let previous = self.previous_view_version;
+        !self.properties.drop_allowed(self.text)
+            && previous.is_some_and(|previous| loses_dialect(&previous, current, self.text))
     }
 
     // Whether the log has no room for the pending entry.
     fn is_log_over(&self) -> bool
         ensures { result ≡ over (room self.now.version_log) (with_entry (map entry_of (held_in self.now.version_log)) (option_map entry_of self.now.history_entry)) }
     {
-        match self.history_entry {
-            None => false,
-            Some(_) => self.version_log.is_full(),
-        }
+        self.history_entry.is_some() && self.version_log.is_full()
     }
 
     // Refuses a builder of which no view can be built.

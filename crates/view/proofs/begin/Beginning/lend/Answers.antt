@@ -10,15 +10,15 @@ pub returns : goal.returns
 returns g c =
     let G = reading g.S.Identified g.S.Numbered g.S.SchemaKind in
     let block = c.args.self.text.now in
-    let ts = c.empty_table-schemas.ensures in
-    let vs = c.empty_table-versions.ensures in
-    let es = c.empty_table-version_log.ensures in
+    let ts = c.over-schemas.ensures in
+    let vs = c.over-versions.ensures in
+    let es = c.over-version_log.ensures in
     let ps = c.over-properties.ensures in
-    let cs = c.empty_table-changes.ensures in
+    let cs = c.over-changes.ensures in
     record {
       model = λ h.
-          bare c.args.self.uuid (none_held (schema_of G block) c.empty_table-schemas.result.slots.now _ ts.none h) (none_held (version_of block) c.empty_table-versions.result.slots.now _ vs.none h) (none_held entry_of c.empty_table-version_log.result.slots.now _ es.none h)
-          (none_held (property_of block) c.over-properties.result.records.now _ ps.held h) (none_held (change_of G block) c.empty_table-changes.result.slots.now _ cs.none h)
+          bare c.args.self.uuid (none_held (schema_of G block) c.over-schemas.result.slots.now _ ts.none h) (none_held (version_of block) c.over-versions.result.slots.now _ vs.none h) (none_held entry_of c.over-version_log.result.slots.now _ es.none h)
+          (none_held (property_of block) c.over-properties.result.records.now _ ps.held h) (none_held (change_of G block) c.over-changes.result.slots.now _ cs.none h)
           (ts.room h) (vs.room h) (es.room h) ((ap length ps.records ∙ c.told-properties) h) (cs.room h);
       text = refl;
       schemas = ts.slots;
