@@ -1,13 +1,12 @@
 -- Building, as the model has it. Assumes nothing.
-use Rattle.std.proofs.Common.{◌≡◌, ℕ, count_by, ◌+◌, Bool, true, false, cond, not, ◌&&◌, List, [], ◌∷◌, map, length, drop, ℤ, Some, None, IsErrAnd, Ok, Err, Option, Result, sym, refl, ap, ◌∙◌, subst, inl, inr, arith}
+use Rattle.std.proofs.Common.{◌≡◌, ℕ, count_by, ◌+◌, Bool, true, false, cond, not, ◌&&◌, List, ◌∷◌, map, length, drop, ℤ, Some, None, IsErrAnd, Ok, Err, Option, Result, sym, refl, ap, ◌∙◌, subst, arith}
 use mathlib.Core.List.{map-map}
 use Rattle.std.specs.Option.{option_map}
 use Rattle.std.proofs.lemmas.List.{length-map, length-take, length-append, take_at}
 use Rattle.std.proofs.lemmas.List.Recursion.{is_count_by}
-use Rattle.std.proofs.lemmas.Bool.{cases_Bool}
 use Rattle.std.proofs.lemmas.Bool.Decides.{nat_tests}
 use Rattle.model.specs.Bytes.{Bytes}
-use Rattle.model.specs.Ids.{find, holds, same_number}
+use Rattle.model.specs.Ids.{find, holds}
 use Rattle.model.specs.Refusals.{Fault, fault, refuse, over, no_current_version, schema_not_held, lost_dialect, limit_reached, versions_part, log_part, builder_part}
 use Rattle.model.specs.Settings.{drop_key}
 use Rattle.model.specs.State.{State, Metadata, Change}
@@ -35,6 +34,7 @@ use Rattle.fault.specs.declared.fault.Fault as code
 use Rattle.fault.specs.Meaning.{fault_of}
 use Rattle.view.specs.Finished.{adds_version, logged, changes_of, build_after, HoldsBuild}
 use Rattle.view.proofs.Recording.{one_more}
+use Rattle.view.proofs.Mapped.{find_mapped}
 
 module _ {X : Type 0} (g : Reading X) (block : Bytes) where
   -- those that add a version, counted
@@ -59,26 +59,17 @@ module _ (t : Table ViewVersionLog) (o : Option ViewVersionLog) where
   pub over_some : (x : ViewVersionLog) → o ≡ Some x → is_full t ≡ over (room t) (with_entry (map entry_of (held_in t)) (option_map entry_of o))
   over_some x e = simp (e, length-append, length-map, length-take) (grind (arith, nat_tests))
 
--- the first with the id, by what it means
-find_mapped : {A B : Type 0} (f : A → B) (id_of : B → ℤ) (i : ℤ) (xs : List A) → find id_of i (map f xs) ≡ option_map f (find (λ x. id_of (f x)) i xs)
-find_mapped f id_of i [] = refl
-find_mapped f id_of i (x ∷ xs) =
-    elim (cases_Bool (same_number (id_of (f x)) i)) [
-      | inl h ↦ simp h
-      | inr h ↦ simp h (find_mapped f id_of i xs)
-    ]
-
 -- the last of three tests passed, where the answer is accepted
 last_passed : {A : Type 0} (p q r : Bool) (e f h : Fault) (x y : A) → Ok x ≡ refuse p e (refuse q f (refuse r h (Ok y))) → r ≡ false
-last_passed true q r e f h x y is = let z : ◌≡◌ {A = ℕ} 0 1 = cc in absurd (omega arith)
-last_passed false true r e f h x y is = let z : ◌≡◌ {A = ℕ} 0 1 = cc in absurd (omega arith)
-last_passed false false true e f h x y is = let z : ◌≡◌ {A = ℕ} 0 1 = cc in absurd (omega arith)
+last_passed true q r e f h x y is = absurd (cc)
+last_passed false true r e f h x y is = absurd (cc)
+last_passed false false true e f h x y is = absurd (cc)
 last_passed false false false e f h x y is = refl
 
 -- what is built has room for its log
 module _ {C : Type 0} (s : State C) (x : Metadata C × List (Change C)) where
   room_at : (o : Option Version) → Ok x ≡ build_at s o → over s.rooms.version_log (with_entry s.metadata.version_log s.pending_entry) ≡ false
-  room_at None e = let z : ◌≡◌ {A = ℕ} 0 1 = cc in absurd (omega arith)
+  room_at None e = absurd (cc)
   room_at (Some v) e =
       last_passed (not (holds v.content.schema_id (schema_ids s.metadata.schemas))) (not (drop_allowed (look_up drop_key s.metadata.properties)) && loses_dialect s.previous_version v.content)
       (over s.rooms.version_log (with_entry s.metadata.version_log s.pending_entry))

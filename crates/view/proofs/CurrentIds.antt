@@ -1,5 +1,5 @@
 -- Setting the id of the current version, as the model has it. Assumes nothing.
-use Rattle.std.proofs.Common.{◌≡◌, ℕ, ◌≤◌, min, true, false, cond, leb, List, [], ◌∷◌, map, length, drop, ℤ, Some, None, MatchOption, Ok, Err, Option, sym, refl, ap, ◌∙◌, inl, inr, arith}
+use Rattle.std.proofs.Common.{◌≡◌, ℕ, ◌≤◌, min, true, false, cond, leb, List, map, length, drop, ℤ, Some, None, MatchOption, Ok, Err, Option, sym, ap, ◌∙◌, inl, inr, arith}
 use mathlib.Core.List.{map-map}
 use Rattle.std.specs.Option.{option_map}
 use Rattle.std.proofs.lemmas.List.{drop_all, drop-map}
@@ -20,15 +20,7 @@ use Rattle.view.specs.declared.view_metadata_builder.ViewMetadataBuilder.{ViewMe
 use Rattle.view.specs.declared.view_update.ViewUpdate.TheVariants.{SetCurrentViewVersion}
 use Rattle.view.specs.Meaning.{Reading, model_of, change_of}
 use Rattle.view.specs.Steps.{with_current, with_pending}
-
--- the first with an id, and its meaning
-find_mapped : {A B : Type 0} (f : A → B) (id_of : B → ℤ) (i : ℤ) (xs : List A) → find id_of i (map f xs) ≡ option_map f (find (λ x. id_of (f x)) i xs)
-find_mapped f id_of i [] = refl
-find_mapped f id_of i (x ∷ xs) =
-    elim (cases_Bool (same_number (id_of (f x)) i)) [
-      | inl h ↦ simp h
-      | inr h ↦ simp h (find_mapped f id_of i xs)
-    ]
+use Rattle.view.proofs.Mapped.{find_mapped}
 
 -- past the end there is no more to drop
 drop_min : {A : Type 0} (n : ℕ) (xs : List A) → drop (min n (length xs)) xs ≡ drop n xs

@@ -1,5 +1,5 @@
 -- The plan of set current version refuses as its three edits do. Assumes nothing.
-use Rattle.std.proofs.Common.{◌≡◌, ℕ, ◌+◌, Bool, true, false, cond, not, ◌||◌, leb, ◌⊎◌, List, [], ◌∷◌, ◌++◌, map, length, ℤ, pos, Some, None, Ok, Err, filter, Option, Result, sym, refl, ap, ◌∙◌, subst, inl, inr, arith, length-append}
+use Rattle.std.proofs.Common.{◌≡◌, ℕ, ◌+◌, Bool, true, false, cond, not, ◌||◌, leb, ◌⊎◌, List, [], ◌∷◌, ◌++◌, map, length, ℤ, pos, Some, None, Ok, Err, filter, Option, Result, sym, refl, ap, ◌∙◌, subst, inl, inr, length-append}
 use lib.Signed.{lt_z}
 use Rattle.std.proofs.lemmas.Bool.{cases_Bool, true≢false}
 use Rattle.model.specs.Bytes.{same_bytes, repeats}
@@ -62,7 +62,7 @@ least_is i j (Some k) e = elim (cases_Bool (lt_z k i)) [ inl h ↦ inr (ap Some 
 
 -- the lowest of those that pass a test is held
 lowest_held : {A : Type 0} (id_of : A → ℤ) (test : A → Bool) (xs : List A) (i : ℤ) → lowest_id_where id_of test xs ≡ Some i → holds i (map id_of xs) ≡ true
-lowest_held id_of test [] i e = let z : ◌≡◌ {A = ℕ} 0 1 = cc in absurd (omega arith)
+lowest_held id_of test [] i e = absurd (cc)
 lowest_held id_of test (x ∷ xs) i e =
     elim (cases_Bool (test x)) [
       | inl h ↦

@@ -1,5 +1,5 @@
 -- The answers of a register, seen through what its things mean, with what follows them. Assumes nothing.
-use Rattle.std.proofs.Common.{◌≡◌, ℕ, Bool, true, false, cond, List, map, ℤ, Some, None, Ok, Err, Option, Result, sym, refl, ap, ◌∙◌, arith}
+use Rattle.std.proofs.Common.{◌≡◌, ℕ, Bool, true, false, cond, List, map, ℤ, Some, None, Ok, Err, Option, Result, sym, refl, ap, ◌∙◌}
 use mathlib.Core.List.{map-map}
 use Rattle.model.specs.Ids.{next_id, ids_used_up, lowest_id_where}
 use Rattle.model.specs.Refusals.{Part, Fault, fault, refuse, refuse_with, then, full, no_id_left, limit_reached}
@@ -33,8 +33,8 @@ by_tests part false false j = refl
 
 -- where an id is given, a slot is free
 pub free_slot : (part : Part) (used no_room : Bool) (i j : ℤ) → Ok i ≡ given part (numbered used no_room j) → no_room ≡ false
-free_slot part true no_room i j e = let z : ◌≡◌ {A = ℕ} 0 1 = cc in absurd (omega arith)
-free_slot part false true i j e = let z : ◌≡◌ {A = ℕ} 0 1 = cc in absurd (omega arith)
+free_slot part true no_room i j e = absurd (cc)
+free_slot part false true i j e = absurd (cc)
 free_slot part false false i j e = refl
 
 module _ {X Y B : Type 0} (f : X → Y) (id_of : Y → ℤ) (part : Part) where

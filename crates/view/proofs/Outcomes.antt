@@ -1,5 +1,5 @@
 -- The answers of a call as the model has them: accepted, left by a `?`, or ended by recording a change. Assumes nothing.
-use Rattle.std.proofs.Common.{◌≡◌, ℕ, Bool, true, false, cond, ℤ, is_err, IsErrAnd, Some, None, Ok, Err, Option, Result, sym, refl, ap, ◌∙◌, arith}
+use Rattle.std.proofs.Common.{◌≡◌, Bool, true, false, cond, ℤ, is_err, IsErrAnd, Some, None, Ok, Err, Option, Result, sym, refl, ap, ◌∙◌}
 use Rattle.std.specs.Option.{ok_or}
 use Rattle.std.proofs.lemmas.Bool.{true≢false}
 use Rattle.model.specs.State.{State}
@@ -34,7 +34,7 @@ meant_by (Ok a) f e = absurd e
 -- the fault where there was none
 pub none_means : {A : Type 0} (o : Option A) (d f : Fault) (m : refusals.Fault) → o ≡ None → Err f ≡ ok_or o d → fault_of d ≡ m → fault_of f ≡ m
 none_means None d f m p e q = let is : f ≡ d = cc in ap fault_of is ∙ q
-none_means (Some a) d f m p e q = let z : ◌≡◌ {A = ℕ} 0 1 = cc in absurd (omega arith)
+none_means (Some a) d f m p e q = absurd (cc)
 
 -- a refusal answers no id
 pub no_answer : (s : Result ℤ Fault) (last : Option ℤ) → is_err s ≡ true → answers_last s last
@@ -43,12 +43,12 @@ no_answer (Err f) last e = tt
 
 -- what the answer of recording says of the room
 room_from : (full : Bool) (r : Result (Unit {0}) Fault) (x : Unit {0}) → meant r ≡ refuse full changes_fault (Ok tt) → r ≡ Ok x → full ≡ false
-room_from true r x q p = let e : ◌≡◌ {A = Result (Unit {0}) refusals.Fault} (Ok x) (Err changes_fault) = sym (ap meant p) ∙ q in let z : ◌≡◌ {A = ℕ} 0 1 = cc in absurd (omega arith)
+room_from true r x q p = let e : ◌≡◌ {A = Result (Unit {0}) refusals.Fault} (Ok x) (Err changes_fault) = sym (ap meant p) ∙ q in absurd (cc)
 room_from false r x q p = refl
 
 pub full_from : (full : Bool) (r : Result (Unit {0}) Fault) (f : Fault) → meant r ≡ refuse full changes_fault (Ok tt) → r ≡ Err f → (full ≡ true) × (fault_of f ≡ changes_fault)
 full_from true r f q p = let e : ◌≡◌ {A = Result (Unit {0}) refusals.Fault} (Err (fault_of f)) (Err changes_fault) = sym (ap meant p) ∙ q in (refl, cc)
-full_from false r f q p = let e : ◌≡◌ {A = Result (Unit {0}) refusals.Fault} (Err (fault_of f)) (Ok tt) = sym (ap meant p) ∙ q in let z : ◌≡◌ {A = ℕ} 0 1 = cc in absurd (omega arith)
+full_from false r f q p = let e : ◌≡◌ {A = Result (Unit {0}) refusals.Fault} (Err (fault_of f)) (Ok tt) = sym (ap meant p) ∙ q in absurd (cc)
 
 -- a push to a full table changes nothing
 not_pushed : {X : Type 0} (t : Table X) (x : X) → is_full t ≡ true → after_push t x ≡ t

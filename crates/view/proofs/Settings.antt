@@ -1,5 +1,5 @@
 -- Setting properties and assigning a uuid, as the model has them. Assumes nothing.
-use Rattle.std.proofs.Common.{◌≡◌, ℕ, Bool, true, false, not, List, map, ℤ, Ok, Err, nat_eq, Result, sym, refl, ap, ◌∙◌, arith}
+use Rattle.std.proofs.Common.{◌≡◌, ℕ, Bool, true, false, not, List, map, ℤ, Ok, Err, nat_eq, Result, sym, refl, ap, ◌∙◌}
 use Rattle.std.specs.Cmp.Lexicographic.{pointwise}
 use Rattle.std.proofs.lemmas.Slice.Eq.{slice_eq-Decides, compares_Decides}
 use Rattle.std.proofs.lemmas.Bool.Decides.{same_from_decides, Decides-eqb}
@@ -46,18 +46,18 @@ module _ {X : Type 0} (g : Reading X) (b : ViewMetadataBuilder X) (u : Bytes) (c
 
 -- a step that was refused, though what came after it never refuses
 refused_before : {A B E : Type 0} (p : Result A E) (h : A → B) (f : E) → Err f ≡ then p (λ a. Ok (h a)) → p ≡ Err f
-refused_before (Ok a) h f e = let z : ◌≡◌ {A = ℕ} 0 1 = cc in absurd (omega arith)
+refused_before (Ok a) h f e = absurd (cc)
 refused_before (Err f₁) h f e = let q : f₁ ≡ f = cc in ap Err q
 
 -- a step that was accepted, and what came after it
 accepted_before : {A B E : Type 0} (p : Result A E) (h : A → B) (y : B) → Ok y ≡ then p (λ a. Ok (h a)) → (a : A) × (p ≡ Ok a) × (y ≡ h a)
 accepted_before (Ok a) h y e = (a, refl, cc)
-accepted_before (Err f) h y e = let z : ◌≡◌ {A = ℕ} 0 1 = cc in absurd (omega arith)
+accepted_before (Err f) h y e = absurd (cc)
 
 -- what an accepted call has set
 set_to : {A B : Type 0} (x y : B) (r : Result A PropertyFault) → answered (λ _. x) r ≡ Ok y → x ≡ y
 set_to x y (Ok a) e = cc
-set_to x y (Err f) e = let z : ◌≡◌ {A = ℕ} 0 1 = cc in absurd (omega arith)
+set_to x y (Err f) e = absurd (cc)
 
 -- a test by what its opposite answers
 not_is : (x y : Bool) → y ≡ not x → x ≡ not y

@@ -1,5 +1,5 @@
 -- Beginning a view and upgrading its format, as the model has them. Assumes nothing.
-use Rattle.std.proofs.Common.{◌≡◌, ℕ, Bool, true, false, not, eqb, List, [], map, take, ℤ, IsErrAnd, None, Ok, Err, Result, sym, refl, ap, ◌∙◌, arith}
+use Rattle.std.proofs.Common.{◌≡◌, ℕ, Bool, true, false, not, eqb, List, [], map, take, ℤ, IsErrAnd, None, Ok, Err, Result, sym, refl, ap, ◌∙◌}
 use Rattle.model.specs.Bytes.{Bytes}
 use Rattle.model.specs.Ids.{last_added}
 use Rattle.model.specs.Version.{Property, Version, LogEntry, Schema}
@@ -21,11 +21,11 @@ use Rattle.view.proofs.Outcomes.{went}
 -- the first test refuses, whatever comes after it
 pub refused_first : {A B : Type 0} (t : Bool) (f₁ f₂ : refusals.Fault) (a : A) (r : Result B refusals.Fault) → Err f₂ ≡ refuse t f₁ (Ok a) → refuse t f₁ r ≡ Err f₂
 refused_first true f₁ f₂ a r e = let q : f₁ ≡ f₂ = cc in ap Err q
-refused_first false f₁ f₂ a r e = let z : ◌≡◌ {A = ℕ} 0 1 = cc in absurd (omega arith)
+refused_first false f₁ f₂ a r e = absurd (cc)
 
 -- the first test passes, and what comes after it counts
 pub passed_first : {A B : Type 0} (t : Bool) (f : refusals.Fault) (a x : A) (r : Result B refusals.Fault) → Ok x ≡ refuse t f (Ok a) → refuse t f r ≡ r
-passed_first true f a x r e = let z : ◌≡◌ {A = ℕ} 0 1 = cc in absurd (omega arith)
+passed_first true f a x r e = absurd (cc)
 passed_first false f a x r e = refl
 
 -- the test of a format version
