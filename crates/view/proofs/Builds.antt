@@ -27,12 +27,12 @@ use Rattle.expiry.proofs.Meanings.{expired_versions, ids_of_versions}
 use Rattle.view.specs.declared.view_metadata_builder.ViewMetadataBuilder.{ViewMetadataBuilder}
 use Rattle.view.specs.declared.view_update.ViewUpdate.{ViewUpdate}
 use Rattle.view.specs.declared.view_update.ViewUpdate.TheVariants.{AssignUuid, SetLocation, AddSchema, AddViewVersion, SetCurrentViewVersion, SetProperties, RemoveProperties}
-use Rattle.view.specs.Meaning.{Reading, model_of, metadata, change_of, schema_of}
+use Rattle.view.specs.Meaning.{Reading, model_of, metadata, changes_of, change_of, schema_of}
 use Rattle.view.proofs.Readings.{reading}
 use Rattle.view.specs.Steps.{with_log, with_versions}
 use Rattle.fault.specs.declared.fault.Fault as code
 use Rattle.fault.specs.Meaning.{fault_of}
-use Rattle.view.specs.Finished.{adds_version, logged, changes_of, build_after, HoldsBuild}
+use Rattle.view.specs.Finished.{adds_version, logged, build_after, HoldsBuild}
 use Rattle.view.proofs.Recording.{one_more}
 use Rattle.view.proofs.Mapped.{find_mapped}
 
@@ -84,28 +84,28 @@ module _ {X : Type 0} (i : identified.Ghosts X) (n : numbered.Ghosts X) (k : sch
   G = reading i n k
 
   abbrev block : Bytes
-  block = b.text.now
+  block = b.view.text.now
 
   -- the version that is current
   abbrev current : Option ViewVersion
-  current = find (λ v. v.version_id) b.current_version_id (held_in b.versions.table)
+  current = find (λ v. v.version_id) b.view.current_version_id (held_in b.view.versions.table)
 
   -- it as it was looked up
-  pub looked_up : (z : ℤ) (vs : List ViewVersion) (o : Option ViewVersion) → o ≡ find (λ v. v.version_id) z vs → z ≡ b.current_version_id → vs ≡ held_in b.versions.table → current ≡ o
+  pub looked_up : (z : ℤ) (vs : List ViewVersion) (o : Option ViewVersion) → o ≡ find (λ v. v.version_id) z vs → z ≡ b.view.current_version_id → vs ≡ held_in b.view.versions.table → current ≡ o
   looked_up z vs o e q h = sym (e ∙ (λ j. find (λ v. v.version_id) (q j) (h j)))
 
   -- its schema, as it was looked up
-  pub schema_held : (v : ViewVersion) (z : ℤ) (xs : List X) (r : Bool) → r ≡ holds z (map i.named xs) → z ≡ v.schema_id → xs ≡ held_in b.schemas.table →
-      holds v.schema_id (map i.named (held_in b.schemas.table)) ≡ r
+  pub schema_held : (v : ViewVersion) (z : ℤ) (xs : List X) (r : Bool) → r ≡ holds z (map i.named xs) → z ≡ v.schema_id → xs ≡ held_in b.view.schemas.table →
+      holds v.schema_id (map i.named (held_in b.view.schemas.table)) ≡ r
   schema_held v z xs r e q h = sym (e ∙ (λ j. holds (q j) (map i.named (h j))))
 
   -- the version would lose a dialect, and none may be lost
   abbrev loses : ViewVersion → Bool
-  loses v = not (drop_allowed (look_up drop_key (properties_of block b.properties))) && loses_dialect (option_map (version_of block) b.previous_view_version) (content_of block v)
+  loses v = not (drop_allowed (look_up drop_key (properties_of block b.view.properties))) && loses_dialect (option_map (version_of block) b.previous_view_version) (content_of block v)
 
   -- the log has no room
   abbrev log_over : Bool
-  log_over = over (room b.version_log) (with_entry (map entry_of (held_in b.version_log)) (option_map entry_of b.history_entry))
+  log_over = over (room b.view.version_log) (with_entry (map entry_of (held_in b.view.version_log)) (option_map entry_of b.history_entry))
 
   -- the exit of a `?`
   pub built_err : (s : Result (Unit {0}) code.Fault) (f : code.Fault) → IsErrAnd s (λ y. y ≡ f) → build_after G b s ≡ Err (fault_of f)
@@ -114,60 +114,60 @@ module _ {X : Type 0} (i : identified.Ghosts X) (n : numbered.Ghosts X) (k : sch
 
   pub build_without : current ≡ None → Err (fault no_current_version builder_part) ≡ build (model_of G b)
   unfolding build
-  build_without e = sym (ap (build_at (model_of G b)) (find_mapped (version_of block) (λ v. v.id) b.current_version_id (held_in b.versions.table) ∙ ap (option_map (version_of block)) e))
+  build_without e = sym (ap (build_at (model_of G b)) (find_mapped (version_of block) (λ v. v.id) b.view.current_version_id (held_in b.view.versions.table) ∙ ap (option_map (version_of block)) e))
 
   -- by the answers of the three tests
-  pub build_by : (v : ViewVersion) (held lost more : Bool) → current ≡ Some v → holds v.schema_id (map i.named (held_in b.schemas.table)) ≡ held → loses v ≡ lost → log_over ≡ more →
-      refuse (not held) (fault schema_not_held versions_part) (refuse lost (fault lost_dialect builder_part) (refuse more (fault limit_reached log_part) (Ok (built_metadata (model_of G b), changes_of G b)))) ≡ build (model_of G b)
+  pub build_by : (v : ViewVersion) (held lost more : Bool) → current ≡ Some v → holds v.schema_id (map i.named (held_in b.view.schemas.table)) ≡ held → loses v ≡ lost → log_over ≡ more →
+      refuse (not held) (fault schema_not_held versions_part) (refuse lost (fault lost_dialect builder_part) (refuse more (fault limit_reached log_part) (Ok (built_metadata (model_of G b), changes_of G b.view)))) ≡ build (model_of G b)
   unfolding build
   build_by v held lost more e h l o =
-      let ids : schema_ids (map (schema_of G block) (held_in b.schemas.table)) ≡ map i.named (held_in b.schemas.table) = map-map (λ t. t.id) (schema_of G block) (held_in b.schemas.table) in
-      let held_is : holds v.schema_id (schema_ids (map (schema_of G block) (held_in b.schemas.table))) ≡ held = ap (holds v.schema_id) ids ∙ h in
+      let ids : schema_ids (map (schema_of G block) (held_in b.view.schemas.table)) ≡ map i.named (held_in b.view.schemas.table) = map-map (λ t. t.id) (schema_of G block) (held_in b.view.schemas.table) in
+      let held_is : holds v.schema_id (schema_ids (map (schema_of G block) (held_in b.view.schemas.table))) ≡ held = ap (holds v.schema_id) ids ∙ h in
       sym
-      (ap (build_at (model_of G b)) (find_mapped (version_of block) (λ v. v.id) b.current_version_id (held_in b.versions.table) ∙ ap (option_map (version_of block)) e)
-      ∙ (λ j. refuse (not (held_is j)) (fault schema_not_held versions_part) (refuse (l j) (fault lost_dialect builder_part) (refuse (o j) (fault limit_reached log_part) (Ok (built_metadata (model_of G b), changes_of G b))))))
+      (ap (build_at (model_of G b)) (find_mapped (version_of block) (λ v. v.id) b.view.current_version_id (held_in b.view.versions.table) ∙ ap (option_map (version_of block)) e)
+      ∙ (λ j. refuse (not (held_is j)) (fault schema_not_held versions_part) (refuse (l j) (fault lost_dialect builder_part) (refuse (o j) (fault limit_reached log_part) (Ok (built_metadata (model_of G b), changes_of G b.view))))))
 
   -- the log with the pending entry, as the model has it
-  entered_log : (o : Option ViewVersionLog) → over (room b.version_log) (with_entry (map entry_of (held_in b.version_log)) (option_map entry_of o)) ≡ false →
-      map entry_of (held_in (logged b.version_log o)) ≡ with_entry (map entry_of (held_in b.version_log)) (option_map entry_of o)
+  entered_log : (o : Option ViewVersionLog) → over (room b.view.version_log) (with_entry (map entry_of (held_in b.view.version_log)) (option_map entry_of o)) ≡ false →
+      map entry_of (held_in (logged b.view.version_log o)) ≡ with_entry (map entry_of (held_in b.view.version_log)) (option_map entry_of o)
   entered_log None h = refl
   entered_log (Some e) h =
-      let free : is_full b.version_log ≡ false = over_some b.version_log (Some e) e refl ∙ h in
-      ap (λ q. map entry_of (held_in (cond q b.version_log (with_one_more b.version_log e)))) free ∙ one_more entry_of b.version_log e free
+      let free : is_full b.view.version_log ≡ false = over_some b.view.version_log (Some e) e refl ∙ h in
+      ap (λ q. map entry_of (held_in (cond q b.view.version_log (with_one_more b.view.version_log e)))) free ∙ one_more entry_of b.view.version_log e free
 
   -- the versions that stay, and the log cut to them
-  module _ (size added : ℕ) (is_size : size ≡ history_size (properties_of block b.properties)) (is_added : added ≡ additions (changes_of G b))
-      (vs : Table ViewVersion) (is_kept : vs ≡ holding b.versions.table (unexpired_by (λ v. v.version_id) (held_in b.versions.table) b.current_version_id (how_many_to_keep size added) added)) where
+  module _ (size added : ℕ) (is_size : size ≡ history_size (properties_of block b.view.properties)) (is_added : added ≡ additions (changes_of G b.view))
+      (vs : Table ViewVersion) (is_kept : vs ≡ holding b.view.versions.table (unexpired_by (λ v. v.version_id) (held_in b.view.versions.table) b.view.current_version_id (how_many_to_keep size added) added)) where
     kept_is : map (version_of block) (held_in vs) ≡ kept_versions (model_of G b)
     kept_is =
         ap (λ t. map (version_of block) (held_in t)) is_kept
-        ∙ (expired_versions (λ v. v.version_id) (version_of block) (λ v. refl) b.versions.table b.current_version_id (how_many_to_keep size added) added
-        ∙ (λ j. unexpired (map (version_of block) (held_in b.versions.table)) b.current_version_id (how_many_to_keep (is_size j) (is_added j)) (is_added j)))
+        ∙ (expired_versions (λ v. v.version_id) (version_of block) (λ v. refl) b.view.versions.table b.view.current_version_id (how_many_to_keep size added) added
+        ∙ (λ j. unexpired (map (version_of block) (held_in b.view.versions.table)) b.view.current_version_id (how_many_to_keep (is_size j) (is_added j)) (is_added j)))
 
     finished : log_over ≡ false → (log : Table ViewVersionLog) (from : ℕ) →
-        log ≡ kept_from from (logged b.version_log b.history_entry) →
-        map entry_of (drop from (held_in (logged b.version_log b.history_entry))) ≡ kept_log (map (λ v. v.version_id) (held_in vs)) (map entry_of (held_in (logged b.version_log b.history_entry))) →
+        log ≡ kept_from from (logged b.view.version_log b.history_entry) →
+        map entry_of (drop from (held_in (logged b.view.version_log b.history_entry))) ≡ kept_log (map (λ v. v.version_id) (held_in vs)) (map entry_of (held_in (logged b.view.version_log b.history_entry))) →
         ◌≡◌ {A = Metadata n.Content × List (Change n.Content)}
-        (metadata_of 1 b.uuid (metadata G b).location b.current_version_id (metadata G b).schemas (map (version_of block) (held_in vs)) (map entry_of (held_in log)) (metadata G b).properties, changes_of G b)
-        (built_metadata (model_of G b), changes_of G b)
+        (metadata_of 1 b.view.uuid (metadata G b.view).location b.view.current_version_id (metadata G b.view).schemas (map (version_of block) (held_in vs)) (map entry_of (held_in log)) (metadata G b.view).properties, changes_of G b.view)
+        (built_metadata (model_of G b), changes_of G b.view)
     finished h log from is_log cut =
-        let full : Table ViewVersionLog = logged b.version_log b.history_entry in
+        let full : Table ViewVersionLog = logged b.view.version_log b.history_entry in
         let rest : List ViewVersionLog = drop from (held_in full) in
         let ids : map (λ v. v.version_id) (held_in vs) ≡ version_ids (kept_versions (model_of G b)) = sym (ids_of_versions (λ v. v.version_id) (version_of block) (λ v. refl) (held_in vs)) ∙ ap version_ids kept_is in
-        let log_is : map entry_of (held_in log) ≡ kept_log (version_ids (kept_versions (model_of G b))) (with_entry (map entry_of (held_in b.version_log)) (option_map entry_of b.history_entry)) =
+        let log_is : map entry_of (held_in log) ≡ kept_log (version_ids (kept_versions (model_of G b))) (with_entry (map entry_of (held_in b.view.version_log)) (option_map entry_of b.history_entry)) =
         ap (λ t. map entry_of (held_in t)) is_log
         ∙ (ap (map entry_of) (take_at rest (drop (length rest) full.slots.now) (length rest) refl)
         ∙ (cut ∙ (λ j. kept_log (ids j) (entered_log b.history_entry h j)))) in
-        λ j. (metadata_of 1 b.uuid (metadata G b).location b.current_version_id (metadata G b).schemas (kept_is j) (log_is j) (metadata G b).properties, changes_of G b)
+        λ j. (metadata_of 1 b.view.uuid (metadata G b.view).location b.view.current_version_id (metadata G b.view).schemas (kept_is j) (log_is j) (metadata G b.view).properties, changes_of G b.view)
 
   -- what the builder with its log entered makes of the rest
   abbrev Finishes : ViewMetadataBuilder X → Type 0
   Finishes m =
-      (size added : ℕ) → size ≡ history_size (properties_of m.text.now m.properties) → added ≡ additions (changes_of G m) →
-      (vs : Table ViewVersion) → vs ≡ holding m.versions.table (unexpired_by (λ v. v.version_id) (held_in m.versions.table) m.current_version_id (how_many_to_keep size added) added) →
-      log_over ≡ false → (log : Table ViewVersionLog) (from : ℕ) → log ≡ kept_from from m.version_log →
-      map entry_of (drop from (held_in m.version_log)) ≡ kept_log (map (λ v. v.version_id) (held_in vs)) (map entry_of (held_in m.version_log)) →
+      (size added : ℕ) → size ≡ history_size (properties_of m.view.text.now m.view.properties) → added ≡ additions (changes_of G m.view) →
+      (vs : Table ViewVersion) → vs ≡ holding m.view.versions.table (unexpired_by (λ v. v.version_id) (held_in m.view.versions.table) m.view.current_version_id (how_many_to_keep size added) added) →
+      log_over ≡ false → (log : Table ViewVersionLog) (from : ℕ) → log ≡ kept_from from m.view.version_log →
+      map entry_of (drop from (held_in m.view.version_log)) ≡ kept_log (map (λ v. v.version_id) (held_in vs)) (map entry_of (held_in m.view.version_log)) →
       HoldsBuild G b (with_versions (record { table = vs }) (with_log log m))
 
-  pub finishes : (m : ViewMetadataBuilder X) → m ≡ with_log (logged b.version_log b.history_entry) b → Finishes m
+  pub finishes : (m : ViewMetadataBuilder X) → m ≡ with_log (logged b.view.version_log b.history_entry) b → Finishes m
   finishes m e = subst Finishes (sym e) (λ size added is_size is_added vs is_kept h log from is_log cut. finished size added is_size is_added vs is_kept h log from is_log cut)

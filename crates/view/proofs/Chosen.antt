@@ -13,7 +13,7 @@ use Rattle.view.specs.Plans.{counted, told, plan, schema_choice, version_choice}
 
 -- a call that is defined to be accepted
 pub as_accepted : {X A : Type 0} (g : Reading X) (defined : Result (State g.Content) Fault) (b : ViewMetadataBuilder X) (r : Result A code.Fault) (after : ViewMetadataBuilder X) (t : State g.Content) →
-    outcome g r after ≡ defined → after.text.now ≡ b.text.now → defined ≡ Ok t → Did g defined b r after
+    outcome g r after ≡ defined → after.view.text.now ≡ b.view.text.now → defined ≡ Ok t → Did g defined b r after
 as_accepted g defined b (Ok a) after t e block q = record { as_defined = e; block = block; refused = tt }
 as_accepted g defined b (Err f) after t e block q = ok_not_err (e ∙ q)
 

@@ -40,10 +40,10 @@ entry_timed block i clock t (Some v) e = ap (λ z. record { id = i; time = z }) 
 
 module _ {X : Type 0} (g : Reading X) (b : ViewMetadataBuilder X) (clock : ℤ) where
   abbrev block : Bytes
-  block = b.text.now
+  block = b.view.text.now
 
   abbrev held : List ViewVersion
-  held = held_in b.versions.table
+  held = held_in b.view.versions.table
 
   -- the log entry, from what is found among the versions entered as new
   pub entry_found : (i : ℤ) (o : Option ViewVersion) (xs : List ViewVersion) (n : ℕ) → xs ≡ held → n ≡ min b.opened_versions (length xs) →
@@ -63,11 +63,11 @@ module _ {X : Type 0} (g : Reading X) (b : ViewMetadataBuilder X) (clock : ℤ) 
 
     module _ (j : ℤ) (is : resolved_id i b.last_added_version_id ≡ Some j) where
       -- the present one
-      pub current_kept : same_number j b.current_version_id ≡ true → edit g.alike (model_of g b) (set_current_version_id i) clock ≡ Ok (model_of g b)
+      pub current_kept : same_number j b.view.current_version_id ≡ true → edit g.alike (model_of g b) (set_current_version_id i) clock ≡ Ok (model_of g b)
       unfolding edit after_set_current
       current_kept h = simp (is, h)
 
-      module _ (other : same_number j b.current_version_id ≡ false) where
+      module _ (other : same_number j b.view.current_version_id ≡ false) where
         ids : version_ids (map (version_of block) held) ≡ map (λ v. v.version_id) held
         ids = map-map (λ v. v.id) (version_of block) held
 

@@ -62,10 +62,10 @@ form_in block false i j v = refl
 
 module _ {X : Type 0} (g : Reading X) (b : ViewMetadataBuilder X) (v : ViewVersion) where
   abbrev block : Bytes
-  block = b.text.now
+  block = b.view.text.now
 
   abbrev held : List ViewVersion
-  held = held_in b.versions.table
+  held = held_in b.view.versions.table
 
   -- what is handed in
   abbrev handed : VersionIn
@@ -88,10 +88,10 @@ module _ {X : Type 0} (g : Reading X) (b : ViewMetadataBuilder X) (v : ViewVersi
   version_added_by clock r e = version_held r (reuse_or_add_version (model_of g b) handed) e
 
   -- a version is admitted under the schema id that was resolved
-  pub admitted_by : (i : ℤ) (there : Bool) (r : Result (Unit {0}) Fault) → Some i ≡ resolved_id v.schema_id b.last_added_schema_id → there ≡ holds i (map g.named (held_in b.schemas.table)) →
+  pub admitted_by : (i : ℤ) (there : Bool) (r : Result (Unit {0}) Fault) → Some i ≡ resolved_id v.schema_id b.last_added_schema_id → there ≡ holds i (map g.named (held_in b.view.schemas.table)) →
       r ≡ fresh (model_of g b) handed (Ok tt) → refuse (not there) (fault schema_not_held versions_part) (then r (λ _. Ok i)) ≡ admitted_under (model_of g b) handed
   admitted_by i there r o h e =
-      (λ j. refuse (not ((h ∙ sym (ap (holds i) (map-map (λ t. t.id) (schema_of g block) (held_in b.schemas.table)))) j)) (fault schema_not_held versions_part) (after_fresh (model_of g b) handed r tt (λ _. Ok i) e j))
+      (λ j. refuse (not ((h ∙ sym (ap (holds i) (map-map (λ t. t.id) (schema_of g block) (held_in b.view.schemas.table)))) j)) (fault schema_not_held versions_part) (after_fresh (model_of g b) handed r tt (λ _. Ok i) e j))
       ∙ ap (admitted (model_of g b) handed) o
 
   pub not_admitted : (f : Fault) → Err f ≡ admitted_under (model_of g b) handed → reuse_or_add_version (model_of g b) handed None ≡ Err f
@@ -100,14 +100,14 @@ module _ {X : Type 0} (g : Reading X) (b : ViewMetadataBuilder X) (v : ViewVersi
 
   -- the id that a new version gets
   abbrev new_id : Result ℤ RegisterFault
-  new_id = cond (ids_used_up (map (λ t. t.version_id) held)) (Err NoIdLeft) (cond (is_full b.versions.table) (Err Full) (Ok (next_id (pos 1) (map (λ t. t.version_id) held))))
+  new_id = cond (ids_used_up (map (λ t. t.version_id) held)) (Err NoIdLeft) (cond (is_full b.view.versions.table) (Err Full) (Ok (next_id (pos 1) (map (λ t. t.version_id) held))))
 
   -- the choice of a new one
   pub version_new : (t : Result (Unit {0}) Fault) (r : Result ℤ Fault) → t ≡ fresh (model_of g b) handed (Ok tt) → r ≡ given versions_part new_id →
       then t (λ _. then r (λ j. Ok (j, true))) ≡ version_given (model_of g b) handed None
   version_new t r p e =
       after_fresh (model_of g b) handed t tt (λ _. then r (λ j. Ok (j, true))) p
-      ∙ ap (fresh (model_of g b) handed) (after_given (version_of block) (λ t. t.id) versions_part b.versions.table (pos 1) r (λ j. Ok (j, true)) e)
+      ∙ ap (fresh (model_of g b) handed) (after_given (version_of block) (λ t. t.id) versions_part b.view.versions.table (pos 1) r (λ j. Ok (j, true)) e)
 
   -- the state after the add, by its parts
   abbrev shaped : VersionIn → List Version → ℕ → ℤ → Result (State g.Content) Fault
@@ -122,28 +122,28 @@ module _ {X : Type 0} (g : Reading X) (b : ViewMetadataBuilder X) (v : ViewVersi
     abbrev entered : ℤ → Result (State g.Content) Fault
     entered j =
         let n : VersionIn = version_with_id j (with_schema_id i handed) in
-        shaped (as_recorded (model_of g b) n) (map (version_of block) held ++ stored_version n ∷ []) (room b.versions.table) j
+        shaped (as_recorded (model_of g b) n) (map (version_of block) held ++ stored_version n ∷ []) (room b.view.versions.table) j
 
     module _ (r : Result ℤ Fault) (is : r ≡ given versions_part new_id) where
       entering : reuse_or_add_version (model_of g b) handed None ≡ then r entered
       entering =
           enter_by (model_of g b) handed (resolved_id v.schema_id b.last_added_schema_id)
           ∙ (ap (λ z. then z (λ j. numbered (model_of g b) (with_schema_id j handed))) (sym passed)
-          ∙ sym (after_given (version_of block) (λ t. t.id) versions_part b.versions.table (pos 1) r entered is))
+          ∙ sym (after_given (version_of block) (λ t. t.id) versions_part b.view.versions.table (pos 1) r entered is))
 
       pub not_numbered : (f : Fault) → r ≡ Err f → reuse_or_add_version (model_of g b) handed None ≡ Err f
       not_numbered f e = entering ∙ ap (λ z. then z entered) e
 
       pub version_entered : (j : ℤ) (y w : ViewVersion) → r ≡ Ok j → y ≡ renumbered j (of_schema i v) → w ≡ of_schema (cond (is_id b.last_added_schema_id i) last_added i) y →
           reuse_or_add_version (model_of g b) handed None
-          ≡ recorded (change_of g block (AddViewVersion w)) (model_of g (with_last_version j (with_versions (pushed y b.versions) b)))
+          ≡ recorded (change_of g block (AddViewVersion w)) (model_of g (with_last_version j (with_versions (pushed y b.view.versions) b)))
       version_entered j y w e q m =
-          let free : is_full b.versions.table ≡ false = free_slot versions_part (ids_used_up (map (λ t. t.version_id) held)) (is_full b.versions.table) j (next_id (pos 1) (map (λ t. t.version_id) held)) (sym e ∙ is) in
+          let free : is_full b.view.versions.table ≡ false = free_slot versions_part (ids_used_up (map (λ t. t.version_id) held)) (is_full b.view.versions.table) j (next_id (pos 1) (map (λ t. t.version_id) held)) (sym e ∙ is) in
           let eV : version_in block y ≡ version_with_id j (with_schema_id i handed) = ap (version_in block) q in
           let eW : version_in block w ≡ as_recorded (model_of g b) (version_with_id j (with_schema_id i handed)) =
           ap (version_in block) (m ∙ ap (of_schema (cond (is_id b.last_added_schema_id i) last_added i)) q) ∙ form_in block (is_id b.last_added_schema_id i) i j v in
-          let eT : map (version_of block) (held_in (after_push b.versions.table y)) ≡ map (version_of block) held ++ stored_version (version_with_id j (with_schema_id i handed)) ∷ [] =
-          ap (λ z. map (version_of block) (held_in (cond z b.versions.table (with_one_more b.versions.table y)))) free
-          ∙ (one_more (version_of block) b.versions.table y free ∙ ap (λ t. map (version_of block) held ++ stored_version t ∷ []) eV) in
-          let eR : room (after_push b.versions.table y) ≡ room b.versions.table = ap (λ z. room (cond z b.versions.table (with_one_more b.versions.table y))) free ∙ simp length-set in
+          let eT : map (version_of block) (held_in (after_push b.view.versions.table y)) ≡ map (version_of block) held ++ stored_version (version_with_id j (with_schema_id i handed)) ∷ [] =
+          ap (λ z. map (version_of block) (held_in (cond z b.view.versions.table (with_one_more b.view.versions.table y)))) free
+          ∙ (one_more (version_of block) b.view.versions.table y free ∙ ap (λ t. map (version_of block) held ++ stored_version t ∷ []) eV) in
+          let eR : room (after_push b.view.versions.table y) ≡ room b.view.versions.table = ap (λ z. room (cond z b.view.versions.table (with_one_more b.view.versions.table y))) free ∙ simp length-set in
           entering ∙ (ap (λ z. then z entered) e ∙ sym (λ h. shaped (eW h) (eT h) (eR h) j))

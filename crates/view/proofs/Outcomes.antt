@@ -62,31 +62,31 @@ module _ {X A : Type 0} (g : Reading X) (defined : Result (State g.Content) refu
 
   -- a call that left by a `?` with nothing changed
   pub left_by : (s : Result A Fault) (after : ViewMetadataBuilder X) (f : refusals.Fault) → IsErrAnd s (λ y. fault_of y ≡ f) → after ≡ b → defined ≡ Err f → Did g defined b s after
-  left_by s after f q same d = record { as_defined = exit_by s after f q ∙ sym d; block = ap (λ t. t.text.now) same; refused = unchanged s b after same }
+  left_by s after f q same d = record { as_defined = exit_by s after f q ∙ sym d; block = ap (λ t. t.view.text.now) same; refused = unchanged s b after same }
 
   -- the same by a `?` on a fault
   pub left_on : (s : Result A Fault) (after : ViewMetadataBuilder X) (f : Fault) → IsErrAnd s (λ y. y ≡ f) → after ≡ b → defined ≡ Err (fault_of f) → Did g defined b s after
   left_on s after f q = left_by s after (fault_of f) (err_means s f q)
 
   -- a call that was accepted
-  pub went : (a : A) (after : ViewMetadataBuilder X) → after.text.now ≡ b.text.now → defined ≡ Ok (model_of g after) → Did g defined b (Ok a) after
+  pub went : (a : A) (after : ViewMetadataBuilder X) → after.view.text.now ≡ b.view.text.now → defined ≡ Ok (model_of g after) → Did g defined b (Ok a) after
   went a after block d = record { as_defined = sym d; block = block; refused = tt }
 
   -- another name for what is defined
   pub redefined : {other : Result (State g.Content) refusals.Fault} (s : Result A Fault) (after : ViewMetadataBuilder X) → Did g defined b s after → defined ≡ other → Did g other b s after
   redefined s after d e = record { as_defined = d.as_defined ∙ e; block = d.block; refused = d.refused }
 
-  module _ (u : ViewUpdate X) (r : Result (Unit {0}) Fault) (answer : meant r ≡ refuse (is_full b.changes) changes_fault (Ok tt))
-      (b₁ : ViewMetadataBuilder X) (same : b.changes ≡ b₁.changes) (block : b₁.text.now ≡ b.text.now) (d : defined ≡ recorded (change_of g b₁.text.now u) (model_of g b₁)) where
+  module _ (u : ViewUpdate X) (r : Result (Unit {0}) Fault) (answer : meant r ≡ refuse (is_full b.view.changes) changes_fault (Ok tt))
+      (b₁ : ViewMetadataBuilder X) (same : b.view.changes ≡ b₁.view.changes) (block : b₁.view.text.now ≡ b.view.text.now) (d : defined ≡ recorded (change_of g b₁.view.text.now u) (model_of g b₁)) where
     -- a call whose change found no room
     pub unrecorded : (s : Result A Fault) (after : ViewMetadataBuilder X) (f : Fault) → r ≡ Err f → IsErrAnd s (λ y. y ≡ f) →
-        after ≡ with_changes (after_push b.changes u) b → Did g defined b s after
+        after ≡ with_changes (after_push b.view.changes u) b → Did g defined b s after
     unrecorded s after f p q is =
-        let w = full_from (is_full b.changes) r f answer p in
-        left_on s after f q (is ∙ ap (λ t. with_changes t b) (not_pushed b.changes u w.0)) (d ∙ (recorded_not g b₁ u (ap is_full (sym same) ∙ w.0) ∙ ap Err (sym w.1)))
+        let w = full_from (is_full b.view.changes) r f answer p in
+        left_on s after f q (is ∙ ap (λ t. with_changes t b) (not_pushed b.view.changes u w.0)) (d ∙ (recorded_not g b₁ u (ap is_full (sym same) ∙ w.0) ∙ ap Err (sym w.1)))
 
     -- a call that was accepted with its change recorded
-    pub noted : (a : A) (after : ViewMetadataBuilder X) (x : Unit {0}) → r ≡ Ok x → after ≡ with_changes (after_push b₁.changes u) b₁ → Did g defined b (Ok a) after
+    pub noted : (a : A) (after : ViewMetadataBuilder X) (x : Unit {0}) → r ≡ Ok x → after ≡ with_changes (after_push b₁.view.changes u) b₁ → Did g defined b (Ok a) after
     noted a after x p is =
-        went a after (ap (λ t. t.text.now) is ∙ block)
-        (d ∙ recorded_ok g b₁ u (ap is_full (sym same) ∙ room_from (is_full b.changes) r x answer p) ∙ ap (λ c. Ok (model_of g c)) (sym is))
+        went a after (ap (λ t. t.view.text.now) is ∙ block)
+        (d ∙ recorded_ok g b₁ u (ap is_full (sym same) ∙ room_from (is_full b.view.changes) r x answer p) ∙ ap (λ c. Ok (model_of g c)) (sym is))

@@ -22,10 +22,10 @@ use Rattle.view.proofs.NewIds.{after_held, after_given, free_slot}
 
 module _ {X : Type 0} (g : Reading X) (b : ViewMetadataBuilder X) (x : X) where
   abbrev block : Bytes
-  block = b.text.now
+  block = b.view.text.now
 
   abbrev held : List X
-  held = held_in b.schemas.table
+  held = held_in b.view.schemas.table
 
   -- what is handed in
   abbrev handed : SchemaIn g.Content
@@ -56,7 +56,7 @@ module _ {X : Type 0} (g : Reading X) (b : ViewMetadataBuilder X) (x : X) where
 
   -- the id that a new one gets
   abbrev new_id : Result ℤ RegisterFault
-  new_id = cond (ids_used_up (map g.named held)) (Err NoIdLeft) (cond (is_full b.schemas.table) (Err Full) (Ok (next_id g.initial (map g.named held))))
+  new_id = cond (ids_used_up (map g.named held)) (Err NoIdLeft) (cond (is_full b.view.schemas.table) (Err Full) (Ok (next_id g.initial (map g.named held))))
 
   -- the state after the add, by its parts
   abbrev shaped : SchemaIn g.Content → ℤ → List (Schema g.Content) → ℕ → ℤ → Result (State g.Content) Fault
@@ -70,16 +70,16 @@ module _ {X : Type 0} (g : Reading X) (b : ViewMetadataBuilder X) (x : X) where
   abbrev entered : ℤ → Result (State g.Content) Fault
   entered j =
       let n : SchemaIn g.Content = schema_with_id j handed in
-      shaped n n.greatest_field (map (schema_of g block) held ++ stored_schema n ∷ []) (room b.schemas.table) j
+      shaped n n.greatest_field (map (schema_of g block) held ++ stored_schema n ∷ []) (room b.view.schemas.table) j
 
   module _ (first : g.initial ≡ pos 0) (r : Result ℤ Fault) (is : r ≡ given schemas_part new_id) where
     -- what follows it
     new_one : {B : Type 0} (k : ℤ → Result B Fault) →
         then r k
-        ≡ refuse (ids_used_up (schema_ids (map (schema_of g block) held))) (fault no_id_left schemas_part) (refuse (full (room b.schemas.table) (map (schema_of g block) held)) (fault limit_reached schemas_part) (k (next_id (pos 0) (schema_ids (map (schema_of g block) held)))))
+        ≡ refuse (ids_used_up (schema_ids (map (schema_of g block) held))) (fault no_id_left schemas_part) (refuse (full (room b.view.schemas.table) (map (schema_of g block) held)) (fault limit_reached schemas_part) (k (next_id (pos 0) (schema_ids (map (schema_of g block) held)))))
     new_one k =
-        after_given (schema_of g block) (λ t. t.id) schemas_part b.schemas.table (pos 0) r k
-        (is ∙ ap (λ z. given schemas_part (cond (ids_used_up (map g.named held)) (Err NoIdLeft) (cond (is_full b.schemas.table) (Err Full) (Ok (next_id z (map g.named held)))))) first)
+        after_given (schema_of g block) (λ t. t.id) schemas_part b.view.schemas.table (pos 0) r k
+        (is ∙ ap (λ z. given schemas_part (cond (ids_used_up (map g.named held)) (Err NoIdLeft) (cond (is_full b.view.schemas.table) (Err Full) (Ok (next_id z (map g.named held)))))) first)
 
     pub schema_new : then r (λ j. Ok (j, true)) ≡ schema_given (model_of g b) None
     schema_new = new_one (λ j. Ok (j, true))
@@ -92,12 +92,12 @@ module _ {X : Type 0} (g : Reading X) (b : ViewMetadataBuilder X) (x : X) where
 
     pub entered_noted : (j : ℤ) (y : X) (f : ℤ) → r ≡ Ok j → schema_in g block y ≡ schema_with_id j handed → f ≡ g.greatest block y →
         reuse_or_add_schema (model_of g b) handed None
-        ≡ recorded (change_of g block (AddSchema y (Some f))) (model_of g (with_last_schema j (with_schemas (pushed y b.schemas) b)))
+        ≡ recorded (change_of g block (AddSchema y (Some f))) (model_of g (with_last_schema j (with_schemas (pushed y b.view.schemas) b)))
     entered_noted j y f e q m =
-        let free : is_full b.schemas.table ≡ false = free_slot schemas_part (ids_used_up (map g.named held)) (is_full b.schemas.table) j (next_id g.initial (map g.named held)) (sym e ∙ is) in
+        let free : is_full b.view.schemas.table ≡ false = free_slot schemas_part (ids_used_up (map g.named held)) (is_full b.view.schemas.table) j (next_id g.initial (map g.named held)) (sym e ∙ is) in
         let eF : f ≡ g.greatest block x = m ∙ ap (λ (t : SchemaIn g.Content). t.greatest_field) q in
-        let eT : map (schema_of g block) (held_in (after_push b.schemas.table y)) ≡ map (schema_of g block) held ++ stored_schema (schema_with_id j handed) ∷ [] =
-        ap (λ z. map (schema_of g block) (held_in (cond z b.schemas.table (with_one_more b.schemas.table y)))) free
-        ∙ (one_more (schema_of g block) b.schemas.table y free ∙ ap (λ t. map (schema_of g block) held ++ stored_schema t ∷ []) q) in
-        let eR : room (after_push b.schemas.table y) ≡ room b.schemas.table = ap (λ z. room (cond z b.schemas.table (with_one_more b.schemas.table y))) free ∙ simp length-set in
+        let eT : map (schema_of g block) (held_in (after_push b.view.schemas.table y)) ≡ map (schema_of g block) held ++ stored_schema (schema_with_id j handed) ∷ [] =
+        ap (λ z. map (schema_of g block) (held_in (cond z b.view.schemas.table (with_one_more b.view.schemas.table y)))) free
+        ∙ (one_more (schema_of g block) b.view.schemas.table y free ∙ ap (λ t. map (schema_of g block) held ++ stored_schema t ∷ []) q) in
+        let eR : room (after_push b.view.schemas.table y) ≡ room b.view.schemas.table = ap (λ z. room (cond z b.view.schemas.table (with_one_more b.view.schemas.table y))) free ∙ simp length-set in
         sym schema_entered ∙ (ap (λ z. then z entered) e ∙ sym (λ h. shaped (q h) (eF h) (eT h) (eR h) j))

@@ -35,12 +35,12 @@ same_arrays xs ys r m =
 
 module _ {X : Type 0} (g : Reading X) (b : ViewMetadataBuilder X) (u : Bytes) (clock : ℤ) where
   -- the uuid that it has
-  pub uuid_kept : same_bytes u b.uuid ≡ true → edit g.alike (model_of g b) (assign_uuid u) clock ≡ Ok (model_of g b)
+  pub uuid_kept : same_bytes u b.view.uuid ≡ true → edit g.alike (model_of g b) (assign_uuid u) clock ≡ Ok (model_of g b)
   unfolding edit after_assign_uuid
   uuid_kept h = simp h
 
   -- another one: recorded, and set
-  pub uuid_new : same_bytes u b.uuid ≡ false → edit g.alike (model_of g b) (assign_uuid u) clock ≡ recorded (change_of g b.text.now (AssignUuid u)) (model_of g (with_uuid u b))
+  pub uuid_new : same_bytes u b.view.uuid ≡ false → edit g.alike (model_of g b) (assign_uuid u) clock ≡ recorded (change_of g b.view.text.now (AssignUuid u)) (model_of g (with_uuid u b))
   unfolding edit after_assign_uuid
   uuid_new h = simp h
 
@@ -66,7 +66,7 @@ not_is false y e = ap not (sym e)
 
 module _ {X : Type 0} (g : Reading X) (b : ViewMetadataBuilder X) (ps : List Property) (clock : ℤ) where
   abbrev block : Bytes
-  block = b.text.now
+  block = b.view.text.now
 
   -- the edit
   abbrev after : Result (State g.Content) refusals.Fault
@@ -74,17 +74,17 @@ module _ {X : Type 0} (g : Reading X) (b : ViewMetadataBuilder X) (ps : List Pro
 
   -- whether the properties are other ones
   abbrev differs : List model.Property → Bool
-  differs new = not (same_list same_property new (properties_of block b.properties))
+  differs new = not (same_list same_property new (properties_of block b.view.properties))
 
-  pub settings_refused : (f : refusals.Fault) → Err f ≡ planned block ps b.properties → after ≡ Err f
+  pub settings_refused : (f : refusals.Fault) → Err f ≡ planned block ps b.view.properties → after ≡ Err f
   unfolding edit after_set_properties
-  settings_refused f e = simp (refused_before (after_updates block ps b.properties) differs f e)
+  settings_refused f e = simp (refused_before (after_updates block ps b.view.properties) differs f e)
 
-  pub settings_kept : Ok false ≡ planned block ps b.properties → after ≡ Ok (model_of g b)
+  pub settings_kept : Ok false ≡ planned block ps b.view.properties → after ≡ Ok (model_of g b)
   unfolding edit after_set_properties
   settings_kept e =
-      let w = accepted_before (after_updates block ps b.properties) differs false e in
-      let same : same_list same_property w.0 (properties_of block b.properties) ≡ true = not_is _ _ w.2 in
+      let w = accepted_before (after_updates block ps b.view.properties) differs false e in
+      let same : same_list same_property w.0 (properties_of block b.view.properties) ≡ true = not_is _ _ w.2 in
       simp (w.1, same)
 
   -- the record of a change, with the properties after it and the room of their table
@@ -95,21 +95,21 @@ module _ {X : Type 0} (g : Reading X) (b : ViewMetadataBuilder X) (ps : List Pro
       (state_of (updates.with_properties new s.metadata) s.versions_at_start s.previous_version s.last_added_schema s.last_added_version s.pending_entry s.changes
       (record { schemas = s.rooms.schemas; versions = s.rooms.versions; version_log = s.rooms.version_log; properties = r; changes = s.rooms.changes }))
 
-  module _ (e : Ok true ≡ planned block ps b.properties) (u : ViewUpdate X) (is : change_of g block u ≡ properties_set (map (property_in block) ps)) where
+  module _ (e : Ok true ≡ planned block ps b.view.properties) (u : ViewUpdate X) (is : change_of g block u ≡ properties_set (map (property_in block) ps)) where
     -- no room to record it
-    pub settings_unrecorded : is_full b.changes ≡ true → after ≡ recorded (change_of g block u) (model_of g b)
+    pub settings_unrecorded : is_full b.view.changes ≡ true → after ≡ recorded (change_of g block u) (model_of g b)
     unfolding edit after_set_properties
     settings_unrecorded full =
-        let w = accepted_before (after_updates block ps b.properties) differs true e in
-        let other : same_list same_property w.0 (properties_of block b.properties) ≡ false = not_is _ _ w.2 in
-        simp (w.1, other, full_is (change_of g block) b.changes ∙ full)
+        let w = accepted_before (after_updates block ps b.view.properties) differs true e in
+        let other : same_list same_property w.0 (properties_of block b.view.properties) ≡ false = not_is _ _ w.2 in
+        simp (w.1, other, full_is (change_of g block) b.view.changes ∙ full)
 
     -- recorded, and set
-    pub settings_noted : (qs : Properties) (r : Result (Unit {0}) PropertyFault) → answered (λ _. properties_of block qs) r ≡ after_updates block ps b.properties → room_of qs ≡ room_of b.properties →
+    pub settings_noted : (qs : Properties) (r : Result (Unit {0}) PropertyFault) → answered (λ _. properties_of block qs) r ≡ after_updates block ps b.view.properties → room_of qs ≡ room_of b.view.properties →
         after ≡ recorded (change_of g block u) (model_of g (with_properties qs b))
     unfolding edit after_set_properties
     settings_noted qs r a m =
-        let w = accepted_before (after_updates block ps b.properties) differs true e in
-        let other : same_list same_property w.0 (properties_of block b.properties) ≡ false = not_is _ _ w.2 in
+        let w = accepted_before (after_updates block ps b.view.properties) differs true e in
+        let other : same_list same_property w.0 (properties_of block b.view.properties) ≡ false = not_is _ _ w.2 in
         let new : properties_of block qs ≡ w.0 = set_to (properties_of block qs) w.0 r (a ∙ w.1) in
         simp (w.1, other) (sym (λ h. shaped (is h) (new h) (m h)))

@@ -1,5 +1,5 @@
 -- From the code's values to the model's. Assumes nothing.
-use Rattle.std.specs.Prelude.{◌≡◌, ℕ, Bool, map, ℤ, Some, Ok, Err, Option, Result}
+use Rattle.std.specs.Prelude.{◌≡◌, ℕ, Bool, List, map, ℤ, Some, Ok, Err, Option, Result}
 use Rattle.std.specs.Option.{option_map}
 use Rattle.model.specs.Bytes.{Bytes}
 use Rattle.model.specs.Version.{Schema}
@@ -19,6 +19,7 @@ use Rattle.fault.specs.Meaning.{fault_of}
 use Rattle.fault.specs.declared.fault.Fault.{Fault}
 use Rattle.view.specs.declared.view_update.ViewUpdate.{ViewUpdate}
 use Rattle.view.specs.declared.view_update.ViewUpdate.TheVariants.{AssignUuid, SetLocation, AddSchema, AddViewVersion, SetCurrentViewVersion, SetProperties, RemoveProperties}
+use Rattle.view.specs.declared.view.View.{View}
 use Rattle.view.specs.declared.view_metadata_builder.ViewMetadataBuilder.{ViewMetadataBuilder}
 
 -- what a kind of schema states: of a schema its id and its copy under another, over a text block its content, verdict and greatest field number; and contents and their test
@@ -53,33 +54,36 @@ module _ {X : Type 0} (g : Reading X) where
   change_of block (SetProperties ps) = properties_set (map (property_in block) ps.now)
   change_of block (RemoveProperties ks) = properties_removed (map (text_in block) ks.now)
 
-  -- the metadata as a builder has edited it
-  abbrev pub metadata : ViewMetadataBuilder X → Metadata g.Content
-  metadata b =
-      let block : Bytes = b.text.now in
-      metadata_of 1 b.uuid (bytes_of block b.location) b.current_version_id
-      (map (schema_of block) (held_in b.schemas.table))
-      (map (version_of block) (held_in b.versions.table))
-      (map entry_of (held_in b.version_log))
-      (properties_of block b.properties)
+  -- the metadata of a view
+  abbrev pub metadata : View X → Metadata g.Content
+  metadata v =
+      let block : Bytes = v.text.now in
+      metadata_of 1 v.uuid (bytes_of block v.location) v.current_version_id
+      (map (schema_of block) (held_in v.schemas.table))
+      (map (version_of block) (held_in v.versions.table))
+      (map entry_of (held_in v.version_log))
+      (properties_of block v.properties)
+
+  -- its recorded changes
+  abbrev pub changes_of : View X → List (Change g.Content)
+  changes_of v = map (change_of v.text.now) (held_in v.changes)
 
   -- the rooms of its tables
-  abbrev pub rooms : ViewMetadataBuilder X → Rooms
-  rooms b = record {
-    schemas = room b.schemas.table;
-    versions = room b.versions.table;
-    version_log = room b.version_log;
-    properties = room_of b.properties;
-    changes = room b.changes;
+  abbrev pub rooms : View X → Rooms
+  rooms v = record {
+    schemas = room v.schemas.table;
+    versions = room v.versions.table;
+    version_log = room v.version_log;
+    properties = room_of v.properties;
+    changes = room v.changes;
   }
 
   -- what a builder holds
   abbrev pub model_of : ViewMetadataBuilder X → State g.Content
   model_of b =
-      let block : Bytes = b.text.now in
-      state_of (metadata b) b.opened_versions (option_map (version_of block) b.previous_view_version)
+      state_of (metadata b.view) b.opened_versions (option_map (version_of b.view.text.now) b.previous_view_version)
       b.last_added_schema_id b.last_added_version_id (option_map entry_of b.history_entry)
-      (map (change_of block) (held_in b.changes)) (rooms b)
+      (changes_of b.view) (rooms b.view)
 
   -- what a call made of a builder, by its answer and the builder at exit
   abbrev pub outcome : {A : Type 0} → Result A Fault → ViewMetadataBuilder X → Result (State g.Content) refusals.Fault
@@ -109,7 +113,7 @@ answers_last (Err f) last = Unit {0}
 -- a call did what is defined, kept the text block, and left the builder as it was where it was refused
 pub record Did {X A : Type 0} (g : Reading X) (defined : Result (State g.Content) refusals.Fault) (before : ViewMetadataBuilder X) (r : Result A Fault) (after : ViewMetadataBuilder X) : Type 0 where
   pub as_defined : outcome g r after ≡ defined
-  pub block : after.text.now ≡ before.text.now
+  pub block : after.view.text.now ≡ before.view.text.now
   pub refused : unchanged_if_refused r before after
 
 -- a call did what the edit is defined to do at that time of the clock

@@ -6,6 +6,7 @@ ghost use Rattle.model.specs.Texts.{block_fits};
 ghost use Rattle.view.specs.Beginnings.{begun, over_text};
 ghost use Rattle.view.specs.Meaning.{meant, model_of, Applied};
 
+use super::view::View;
 use super::view_metadata_builder::ViewMetadataBuilder;
 use super::view_update::ViewUpdate;
 use fault::fault::{Fault, Part, Refusal};
@@ -77,12 +78,12 @@ impl<'t> Beginning<'t> {
         changes: &'a mut [ViewUpdate<'v, S>; MAX_CHANGES],
     ) -> ViewMetadataBuilder<'t, 'a, 'v, S>
         ensures model { model_of S.SchemaKind result ≡ started (empty self.entry.uuid) }
-        ensures text { result.text.now ≡ self.entry.text.now }
-        ensures schemas { result.schemas.table.slots.now ≡ schemas.old }
-        ensures versions { result.versions.table.slots.now ≡ versions.old }
-        ensures log { result.version_log.slots.now ≡ version_log.old }
-        ensures properties { result.properties.records.now ≡ properties.old }
-        ensures changes { result.changes.slots.now ≡ changes.old }
+        ensures text { result.view.text.now ≡ self.entry.text.now }
+        ensures schemas { result.view.schemas.table.slots.now ≡ schemas.old }
+        ensures versions { result.view.versions.table.slots.now ≡ versions.old }
+        ensures log { result.view.version_log.slots.now ≡ version_log.old }
+        ensures properties { result.view.properties.records.now ≡ properties.old }
+        ensures changes { result.view.changes.slots.now ≡ changes.old }
     {
         let schemas = Table::over(schemas);
         let versions = Table::over(versions);
@@ -90,18 +91,20 @@ impl<'t> Beginning<'t> {
         let properties = Properties::over(properties);
         let changes = Table::over(changes);
         ViewMetadataBuilder {
-            text: self.text,
-            uuid: self.uuid,
-            location: Text {
-                place: 0,
-                length: 0,
+            view: View {
+                text: self.text,
+                uuid: self.uuid,
+                location: Text {
+                    place: 0,
+                    length: 0,
+                },
+                current_version_id: NO_VERSION_ID,
+                schemas: Register { table: schemas },
+                versions: Register { table: versions },
+                version_log,
+                properties,
+                changes,
             },
-            current_version_id: NO_VERSION_ID,
-            schemas: Register { table: schemas },
-            versions: Register { table: versions },
-            version_log,
-            properties,
-            changes,
             opened_versions: 0,
             last_added_schema_id: None,
             last_added_version_id: None,

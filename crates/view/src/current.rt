@@ -20,7 +20,7 @@ impl<'t, 'a, 'v, S: SchemaKind> ViewMetadataBuilder<'t, 'a, 'v, S> {
     fn log_entry(&self, id: i32, clock: i64) -> ViewVersionLog
         ensures { entry_of result ≡ log_entry (entered (model_of S.SchemaKind self.now)) id clock }
     {
-        let held = self.versions.table.items();
+        let held = self.view.versions.table.items();
         let start = self.opened_versions.min(held.len());
         let timestamp_ms = find(&held[start..], id).map_or(clock, |version| version.timestamp_ms);
         ViewVersionLog {
@@ -37,49 +37,49 @@ impl<'t, 'a, 'v, S: SchemaKind> ViewMetadataBuilder<'t, 'a, 'v, S> {
             Refusal::NoVersionAdded,
             Part::Builder,
         ))?;
-        if id == self.current_version_id {
+        if id == self.view.current_version_id {
             return Ok(());
         }
-        if !holds_id(self.versions.table.items(), id) {
+        if !holds_id(self.view.versions.table.items(), id) {
             return Err(Fault::new(Refusal::VersionNotHeld, Part::Builder));
         }
         let entry = self.log_entry(id, clock);
         let view_version_id = as_recorded(id, self.last_added_version_id);
         self.record(ViewUpdate::SetCurrentViewVersion { view_version_id })?;
-        self.current_version_id = id;
+        self.view.current_version_id = id;
         self.history_entry = Some(entry);
         Ok(())
     }
 
     // The id that an add of the schema gives, and whether it is recorded.
     fn schema_choice(&self, schema: &S) -> Result<(i32, bool), Fault>
-        ensures { meant result ≡ schema_choice S.Numbered.alike (model_of S.SchemaKind self.now) (schema_in S.SchemaKind self.now.text.now schema.now) }
+        ensures { meant result ≡ schema_choice S.Numbered.alike (model_of S.SchemaKind self.now) (schema_in S.SchemaKind self.now.view.text.now schema.now) }
     {
-        match held_same(&self.schemas, schema, self.text, Part::Schemas)? {
+        match held_same(&self.view.schemas, schema, self.view.text, Part::Schemas)? {
             Some(id) => Ok((id, !is_last(self.last_added_schema_id, id))),
-            None => Ok((next_id(&self.schemas, Part::Schemas)?, true)),
+            None => Ok((next_id(&self.view.schemas, Part::Schemas)?, true)),
         }
     }
 
     // The id that an add of the version gives where its schema is held, and whether it is recorded.
     fn version_choice(&self, version: &ViewVersion<'v>) -> Result<(i32, bool), Fault>
-        ensures { meant result ≡ version_choice (model_of S.SchemaKind self.now) (version_in self.now.text.now version.now) }
+        ensures { meant result ≡ version_choice (model_of S.SchemaKind self.now) (version_in self.now.view.text.now version.now) }
     {
-        if let Some(id) = held_same(&self.versions, version, self.text, Part::Versions)? {
+        if let Some(id) = held_same(&self.view.versions, version, self.view.text, Part::Versions)? {
             return Ok((id, !is_last(self.last_added_version_id, id)));
         }
         self.require_fresh(version)?;
-        Ok((next_id(&self.versions, Part::Versions)?, true))
+        Ok((next_id(&self.view.versions, Part::Versions)?, true))
     }
 
     // How many changes there are with one more, if it is recorded.
     fn count_change(&self, changes: usize, recorded: bool) -> Result<usize, Fault>
-        ensures { meant result ≡ counted (room self.now.changes) changes recorded }
+        ensures { meant result ≡ counted (room self.now.view.changes) changes recorded }
     {
         if !recorded {
             return Ok(changes);
         }
-        if changes >= self.changes.slots.len() {
+        if changes >= self.view.changes.slots.len() {
             return Err(Fault::new(Refusal::LimitReached, Part::Changes));
         }
         Ok(changes + 1)
@@ -87,13 +87,13 @@ impl<'t, 'a, 'v, S: SchemaKind> ViewMetadataBuilder<'t, 'a, 'v, S> {
 
     // How many changes there are after the three edits of set_current_version, or the first refusal.
     fn plan_current_version(&self, schema: &S, version: ViewVersion<'v>) -> Result<usize, Fault>
-        ensures { meant result ≡ plan S.Numbered.alike (model_of S.SchemaKind self.now) (schema_in S.SchemaKind self.now.text.now schema.now) (version_in self.now.text.now version.entry) }
+        ensures { meant result ≡ plan S.Numbered.alike (model_of S.SchemaKind self.now) (schema_in S.SchemaKind self.now.view.text.now schema.now) (version_in self.now.view.text.now version.entry) }
     {
         let (schema_id, recorded) = self.schema_choice(schema)?;
-        let changes = self.count_change(self.changes.items().len(), recorded)?;
+        let changes = self.count_change(self.view.changes.items().len(), recorded)?;
         let (version_id, recorded) = self.version_choice(&version.with_schema_id(schema_id))?;
         let changes = self.count_change(changes, recorded)?;
-        self.count_change(changes, version_id != self.current_version_id)
+        self.count_change(changes, version_id != self.view.current_version_id)
     }
 
     // Adds the schema, adds the version under its id and makes it current: all three edits, or none.
@@ -103,7 +103,7 @@ impl<'t, 'a, 'v, S: SchemaKind> ViewMetadataBuilder<'t, 'a, 'v, S> {
         version: ViewVersion<'v>,
         clock: i64,
     ) -> Result<(), Fault>
-        ensures { Applied S.SchemaKind (set_current_version (schema_in S.SchemaKind self.old.text.now schema) (version_in self.old.text.now version.entry)) clock self.old result self.new }
+        ensures { Applied S.SchemaKind (set_current_version (schema_in S.SchemaKind self.old.view.text.now schema) (version_in self.old.view.text.now version.entry)) clock self.old result self.new }
     {
         let _ = self.plan_current_version(&schema, version)?;
         let schema_id = self.add_schema(schema)?;

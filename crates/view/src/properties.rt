@@ -14,23 +14,24 @@ impl<'t, 'a, 'v, S: SchemaKind> ViewMetadataBuilder<'t, 'a, 'v, S> {
     pub fn assign_uuid(&mut self, uuid: [u8; 16]) -> Result<(), Fault>
         ensures { (clock : ℤ) → Applied S.SchemaKind (assign_uuid uuid) clock self.old result self.new }
     {
-        if uuid == self.uuid {
+        if uuid == self.view.uuid {
             return Ok(());
         }
         self.record(ViewUpdate::AssignUuid { uuid })?;
-        self.uuid = uuid;
+        self.view.uuid = uuid;
         Ok(())
     }
 
     // Sets properties, all or none; records them where one changes.
     pub fn set_properties(&mut self, updates: &'v [Property]) -> Result<(), Fault>
-        ensures { (clock : ℤ) → Applied S.SchemaKind (set_properties (map (property_in self.old.text.now) updates.now)) clock self.old result self.new }
+        ensures { (clock : ℤ) → Applied S.SchemaKind (set_properties (map (property_in self.old.view.text.now) updates.now)) clock self.old result self.new }
     {
-        if !self.properties.plan(updates, self.text)? {
+        let text = self.view.text;
+        if !self.view.properties.plan(updates, text)? {
             return Ok(());
         }
         self.record(ViewUpdate::SetProperties { updates })?;
-        let _ = self.properties.set(updates, self.text);
+        let _ = self.view.properties.set(updates, text);
         Ok(())
     }
 }

@@ -23,7 +23,7 @@ use version::view_version::ViewVersion;
 impl<'t, 'a, 'v, S: SchemaKind> ViewMetadataBuilder<'t, 'a, 'v, S> {
     // Reuse of the held version with that id.
     fn reuse_version(&mut self, version: ViewVersion<'v>, id: i32) -> Result<i32, Fault>
-        ensures did { Did S.SchemaKind (reuse_or_add_version (model_of S.SchemaKind self.old) (version_in self.old.text.now version.entry) (Some id)) self.old result self.new }
+        ensures did { Did S.SchemaKind (reuse_or_add_version (model_of S.SchemaKind self.old) (version_in self.old.view.text.now version.entry) (Some id)) self.old result self.new }
         ensures answer { answers_last result self.new.last_added_version_id }
     {
         if is_last(self.last_added_version_id, id) {
@@ -38,12 +38,12 @@ impl<'t, 'a, 'v, S: SchemaKind> ViewMetadataBuilder<'t, 'a, 'v, S> {
 
     // Refuses a new version that repeats a dialect or comes too early.
     pub(crate) fn require_fresh(&self, version: &ViewVersion<'v>) -> Result<(), Fault>
-        ensures { meant result ≡ refuse (repeats same_bytes (dialects (content_of self.now.text.now version.now))) (fault repeated_dialect versions_part) (refuse (too_early_for version.now.timestamp_ms (model_of S.SchemaKind self.now).metadata.version_log) (fault time_too_early versions_part) (Ok tt)) }
+        ensures { meant result ≡ refuse (repeats same_bytes (dialects (content_of self.now.view.text.now version.now))) (fault repeated_dialect versions_part) (refuse (too_early_for version.now.timestamp_ms (model_of S.SchemaKind self.now).metadata.version_log) (fault time_too_early versions_part) (Ok tt)) }
     {
-        if require_unique_dialects(version, self.text).is_err() {
+        if require_unique_dialects(version, self.view.text).is_err() {
             return Err(Fault::new(Refusal::RepeatedDialect, Part::Versions));
         }
-        if too_early(version.timestamp_ms, self.version_log.items()) {
+        if too_early(version.timestamp_ms, self.view.version_log.items()) {
             return Err(Fault::new(Refusal::TimeTooEarly, Part::Versions));
         }
         Ok(())
@@ -51,13 +51,13 @@ impl<'t, 'a, 'v, S: SchemaKind> ViewMetadataBuilder<'t, 'a, 'v, S> {
 
     // The schema id under which the version enters as new, if it may.
     fn require_new(&self, version: &ViewVersion<'v>) -> Result<i32, Fault>
-        ensures { meant result ≡ admitted_under (model_of S.SchemaKind self.now) (version_in self.now.text.now version.now) }
+        ensures { meant result ≡ admitted_under (model_of S.SchemaKind self.now) (version_in self.now.view.text.now version.now) }
     {
         let schema_id = resolved(version.schema_id, self.last_added_schema_id).ok_or(Fault::new(
             Refusal::NoSchemaAdded,
             Part::Versions,
         ))?;
-        if !holds_id(self.schemas.table.items(), schema_id) {
+        if !holds_id(self.view.schemas.table.items(), schema_id) {
             return Err(Fault::new(Refusal::SchemaNotHeld, Part::Versions));
         }
         self.require_fresh(version)?;
@@ -66,25 +66,30 @@ impl<'t, 'a, 'v, S: SchemaKind> ViewMetadataBuilder<'t, 'a, 'v, S> {
 
     // A new version, under the next id.
     fn enter_version(&mut self, version: ViewVersion<'v>) -> Result<i32, Fault>
-        ensures did { Did S.SchemaKind (reuse_or_add_version (model_of S.SchemaKind self.old) (version_in self.old.text.now version.entry) None) self.old result self.new }
+        ensures did { Did S.SchemaKind (reuse_or_add_version (model_of S.SchemaKind self.old) (version_in self.old.view.text.now version.entry) None) self.old result self.new }
         ensures answer { answers_last result self.new.last_added_version_id }
     {
         let schema_id = self.require_new(&version)?;
-        let id = next_id(&self.versions, Part::Versions)?;
+        let id = next_id(&self.view.versions, Part::Versions)?;
         let stored = version.with_schema_id(schema_id).with_id(id);
         let view_version = stored.with_schema_id(as_recorded(schema_id, self.last_added_schema_id));
         self.record(ViewUpdate::AddViewVersion { view_version })?;
-        let _ = self.versions.push(stored);
+        let _ = self.view.versions.push(stored);
         self.last_added_version_id = Some(id);
         Ok(id)
     }
 
     // Adds a version, or reuses the held one with the same content; answers its id.
     pub fn add_version(&mut self, version: ViewVersion<'v>) -> Result<i32, Fault>
-        ensures did { (clock : ℤ) → Applied S.SchemaKind (add_version (version_in self.old.text.now version.entry)) clock self.old result self.new }
+        ensures did { (clock : ℤ) → Applied S.SchemaKind (add_version (version_in self.old.view.text.now version.entry)) clock self.old result self.new }
         ensures answer { answers_last result self.new.last_added_version_id }
     {
-        match held_same(&self.versions, &version, self.text, Part::Versions)? {
+        match held_same(
+            &self.view.versions,
+            &version,
+            self.view.text,
+            Part::Versions,
+        )? {
             Some(id) => self.reuse_version(version, id),
             None => self.enter_version(version),
         }

@@ -11,12 +11,11 @@ ghost use Rattle.register.specs.Registers.{same_id, new_id};
 ghost use Rattle.view.specs.Meaning.{meant, given, model_of, schema_in, Applied, Did, answers_last};
 ghost use Rattle.view.specs.Steps.{with_changes};
 
+use super::view::View;
 use super::view_update::ViewUpdate;
 use fault::fault::{Fault, Part, Refusal};
-use property::property::Properties;
 use register::numbered::Numbered;
 use register::register::Register;
-use register::table::Table;
 use schema::kind::SchemaKind;
 use text::bytes::same_bytes;
 use text::text::Text;
@@ -28,15 +27,7 @@ pub const LAST_ADDED: i32 = -1;
 // Edits the metadata of a view in lent tables, and records the changes.
 #[derive(Drop)]
 pub struct ViewMetadataBuilder<'t, 'a, 'v, S> {
-    pub text: &'t [u8],
-    pub uuid: [u8; 16],
-    pub location: Text,
-    pub current_version_id: i32,
-    pub schemas: Register<'a, S>,
-    pub versions: Register<'a, ViewVersion<'v>>,
-    pub version_log: Table<'a, ViewVersionLog>,
-    pub properties: Properties<'a>,
-    pub changes: Table<'a, ViewUpdate<'v, S>>,
+    pub view: View<'t, 'a, 'v, S>,
     pub opened_versions: usize,
     pub last_added_schema_id: Option<i32>,
     pub last_added_version_id: Option<i32>,
@@ -47,10 +38,10 @@ pub struct ViewMetadataBuilder<'t, 'a, 'v, S> {
 impl<'t, 'a, 'v, S: SchemaKind> ViewMetadataBuilder<'t, 'a, 'v, S> {
     // Records a change where there is room for it.
     pub(crate) fn record(&mut self, change: ViewUpdate<'v, S>) -> Result<(), Fault>
-        ensures answer { meant result ≡ refuse (is_full self.old.changes) changes_fault (Ok tt) }
-        ensures builder { self.new ≡ with_changes (after_push self.old.changes change.entry) self.old }
+        ensures answer { meant result ≡ refuse (is_full self.old.view.changes) changes_fault (Ok tt) }
+        ensures builder { self.new ≡ with_changes (after_push self.old.view.changes change.entry) self.old }
     {
-        if self.changes.push(change) {
+        if self.view.changes.push(change) {
             Ok(())
         } else {
             Err(Fault::new(Refusal::LimitReached, Part::Changes))
@@ -59,21 +50,24 @@ impl<'t, 'a, 'v, S: SchemaKind> ViewMetadataBuilder<'t, 'a, 'v, S> {
 
     // Sets the location of the view, without its trailing slashes.
     pub fn set_location(&mut self, location: Text) -> Result<(), Fault>
-        ensures { (clock : ℤ) → Applied S.SchemaKind (set_location (text_in self.old.text.now location)) clock self.old result self.new }
+        ensures { (clock : ℤ) → Applied S.SchemaKind (set_location (text_in self.old.view.text.now location)) clock self.old result self.new }
     {
-        location.check(self.text)?;
-        let location = location.without_trailing_slashes(self.text);
-        if same_bytes(location.bytes(self.text), self.location.bytes(self.text)) {
+        location.check(self.view.text)?;
+        let location = location.without_trailing_slashes(self.view.text);
+        if same_bytes(
+            location.bytes(self.view.text),
+            self.view.location.bytes(self.view.text),
+        ) {
             return Ok(());
         }
         self.record(ViewUpdate::SetLocation { location })?;
-        self.location = location;
+        self.view.location = location;
         Ok(())
     }
 
     // Reuse of the held schema with that id.
     fn reuse_schema(&mut self, schema: S, id: i32) -> Result<i32, Fault>
-        ensures did { Did S.SchemaKind (reuse_or_add_schema (model_of S.SchemaKind self.old) (schema_in S.SchemaKind self.old.text.now schema) (Some id)) self.old result self.new }
+        ensures did { Did S.SchemaKind (reuse_or_add_schema (model_of S.SchemaKind self.old) (schema_in S.SchemaKind self.old.view.text.now schema) (Some id)) self.old result self.new }
         ensures answer { answers_last result self.new.last_added_schema_id }
     {
         if is_last(self.last_added_schema_id, id) {
@@ -89,27 +83,27 @@ impl<'t, 'a, 'v, S: SchemaKind> ViewMetadataBuilder<'t, 'a, 'v, S> {
 
     // A new schema, under the next id.
     fn enter_schema(&mut self, schema: S) -> Result<i32, Fault>
-        ensures did { Did S.SchemaKind (reuse_or_add_schema (model_of S.SchemaKind self.old) (schema_in S.SchemaKind self.old.text.now schema) None) self.old result self.new }
+        ensures did { Did S.SchemaKind (reuse_or_add_schema (model_of S.SchemaKind self.old) (schema_in S.SchemaKind self.old.view.text.now schema) None) self.old result self.new }
         ensures answer { answers_last result self.new.last_added_schema_id }
     {
-        let id = next_id(&self.schemas, Part::Schemas)?;
+        let id = next_id(&self.view.schemas, Part::Schemas)?;
         let stored = schema.with_id(id);
-        let last_column_id = Some(stored.highest_field_id(self.text));
+        let last_column_id = Some(stored.highest_field_id(self.view.text));
         self.record(ViewUpdate::AddSchema {
             schema: stored,
             last_column_id,
         })?;
-        let _ = self.schemas.push(stored);
+        let _ = self.view.schemas.push(stored);
         self.last_added_schema_id = Some(id);
         Ok(id)
     }
 
     // Adds a schema, or reuses the held one with the same content; answers its id.
     pub fn add_schema(&mut self, schema: S) -> Result<i32, Fault>
-        ensures did { (clock : ℤ) → Applied S.SchemaKind (add_schema (schema_in S.SchemaKind self.old.text.now schema)) clock self.old result self.new }
+        ensures did { (clock : ℤ) → Applied S.SchemaKind (add_schema (schema_in S.SchemaKind self.old.view.text.now schema)) clock self.old result self.new }
         ensures answer { answers_last result self.new.last_added_schema_id }
     {
-        match held_same(&self.schemas, &schema, self.text, Part::Schemas)? {
+        match held_same(&self.view.schemas, &schema, self.view.text, Part::Schemas)? {
             Some(id) => self.reuse_schema(schema, id),
             None => self.enter_schema(schema),
         }

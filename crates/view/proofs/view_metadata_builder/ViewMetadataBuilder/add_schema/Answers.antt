@@ -21,7 +21,7 @@ returns-in-Some-clause-did g c clock =
     let G = reading g.S.Identified g.S.Numbered g.S.SchemaKind in
     let b = c.args.self.now in
     redefined G _ b c.reuse_schema.result _ c.reuse_schema.ensures.did
-    (ap (reuse_or_add_schema (model_of G b) (schema_in G b.text.now c.args.schema)) (ap Some (to_z-of_z w32 c.in-Some.id (search rules)) ∙ sym c.in-Some.is)
+    (ap (reuse_or_add_schema (model_of G b) (schema_in G b.view.text.now c.args.schema)) (ap Some (to_z-of_z w32 c.in-Some.id (search rules)) ∙ sym c.in-Some.is)
     ∙ schema_added_by G b c.args.schema clock (Ok c.in_ok-id.field-0) c.in_ok-id.ensures)
 
 pub returns-in-None-clause-did : goal.returns-in-None-clause-did
@@ -29,4 +29,4 @@ returns-in-None-clause-did g c clock =
     let G = reading g.S.Identified g.S.Numbered g.S.SchemaKind in
     let b = c.args.self.now in
     redefined G _ b c.enter_schema.result _ c.enter_schema.ensures.did
-    (ap (reuse_or_add_schema (model_of G b) (schema_in G b.text.now c.args.schema)) (sym c.in-None.is) ∙ schema_added_by G b c.args.schema clock (Ok c.in_ok-id.field-0) c.in_ok-id.ensures)
+    (ap (reuse_or_add_schema (model_of G b) (schema_in G b.view.text.now c.args.schema)) (sym c.in-None.is) ∙ schema_added_by G b c.args.schema clock (Ok c.in_ok-id.field-0) c.in_ok-id.ensures)

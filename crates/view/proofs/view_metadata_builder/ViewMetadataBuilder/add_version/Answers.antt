@@ -21,7 +21,7 @@ returns-in-Some-clause-did g c clock =
     let G = reading g.S.Identified g.S.Numbered g.S.SchemaKind in
     let b = c.args.self.now in
     redefined G _ b c.reuse_version.result _ c.reuse_version.ensures.did
-    (ap (reuse_or_add_version (model_of G b) (version_in b.text.now c.args.version)) (ap Some (to_z-of_z w32 c.in-Some.id (search rules)) ∙ sym c.in-Some.is)
+    (ap (reuse_or_add_version (model_of G b) (version_in b.view.text.now c.args.version)) (ap Some (to_z-of_z w32 c.in-Some.id (search rules)) ∙ sym c.in-Some.is)
     ∙ version_added_by G b c.args.version clock (Ok c.in_ok-id.field-0) c.in_ok-id.ensures)
 
 pub returns-in-None-clause-did : goal.returns-in-None-clause-did
@@ -29,4 +29,4 @@ returns-in-None-clause-did g c clock =
     let G = reading g.S.Identified g.S.Numbered g.S.SchemaKind in
     let b = c.args.self.now in
     redefined G _ b c.enter_version.result _ c.enter_version.ensures.did
-    (ap (reuse_or_add_version (model_of G b) (version_in b.text.now c.args.version)) (sym c.in-None.is) ∙ version_added_by G b c.args.version clock (Ok c.in_ok-id.field-0) c.in_ok-id.ensures)
+    (ap (reuse_or_add_version (model_of G b) (version_in b.view.text.now c.args.version)) (sym c.in-None.is) ∙ version_added_by G b c.args.version clock (Ok c.in_ok-id.field-0) c.in_ok-id.ensures)

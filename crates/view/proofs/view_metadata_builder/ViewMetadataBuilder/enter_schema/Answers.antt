@@ -28,7 +28,7 @@ returns-in_err-record g c =
     let z = to_z-of_z w32 j (search rules) in
     record {
       did =
-          unrecorded G _ b _ c.record.result c.record.ensures.answer (with_last_schema j (with_schemas (pushed y b.schemas) b)) refl refl
+          unrecorded G _ b _ c.record.result c.record.ensures.answer (with_last_schema j (with_schemas (pushed y b.view.schemas) b)) refl refl
           (entered_noted G b c.args.schema g.met.S.SchemaKind.first (Ok j) c.in_ok-id.ensures j y _ refl
           (copied_in G b c.args.schema g.met.S.Numbered.renamed g.met.S.Numbered.contents g.met.S.Numbered.verdicts g.met.S.SchemaKind.part y j (c.with_id-stored.ensures ∙ ap (λ i. g.S.Numbered.copied i c.args.schema) z))
           (to_z-of_z w32 c.highest_field_id.result (search rules) ∙ c.highest_field_id.ensures))
@@ -45,11 +45,11 @@ returns g c =
     let z = to_z-of_z w32 j (search rules) in
     record {
       did =
-          noted G _ b _ c.record.result c.record.ensures.answer (with_last_schema j (with_schemas (pushed y b.schemas) b)) refl refl
+          noted G _ b _ c.record.result c.record.ensures.answer (with_last_schema j (with_schemas (pushed y b.view.schemas) b)) refl refl
           (entered_noted G b c.args.schema g.met.S.SchemaKind.first (Ok j) c.in_ok-id.ensures j y _ refl
           (copied_in G b c.args.schema g.met.S.Numbered.renamed g.met.S.Numbered.contents g.met.S.Numbered.verdicts g.met.S.SchemaKind.part y j (c.with_id-stored.ensures ∙ ap (λ i. g.S.Numbered.copied i c.args.schema) z))
           (to_z-of_z w32 c.highest_field_id.result (search rules) ∙ c.highest_field_id.ensures))
           _ _ _ c.in_ok-record.was
-          (λ h. with_last_schema (z h) (with_schemas ((c.push.ensures.register ∙ ap (λ t. pushed y t.schemas) c.record.ensures.builder) h) (c.record.ensures.builder h)));
+          (λ h. with_last_schema (z h) (with_schemas ((c.push.ensures.register ∙ ap (λ t. pushed y t.view.schemas) c.record.ensures.builder) h) (c.record.ensures.builder h)));
       answer = search rules;
     }

@@ -46,7 +46,7 @@ returns-in_err-record g c =
     let z = to_z-of_z w32 j (search rules) in
     record {
       did =
-          unrecorded G _ b (AddViewVersion w) c.record.result c.record.ensures.answer (with_last_version j (with_versions (pushed y b.versions) b)) refl refl
+          unrecorded G _ b (AddViewVersion w) c.record.result c.record.ensures.answer (with_last_version j (with_versions (pushed y b.view.versions) b)) refl refl
           (version_entered G b c.args.version i c.in_ok-schema_id.ensures (Ok j) c.in_ok-id.ensures j y w refl
           (c.with_id-stored.ensures ∙ (λ h. renumbered (z h) ((c.with_schema_id.ensures ∙ ap (λ k. of_schema k c.args.version) zi) h)))
           (c.with_schema_id-view_version.ensures ∙ ap (λ k. of_schema k y) (to_z-of_z w32 c.as_recorded.result (search rules) ∙ (c.as_recorded.ensures ∙ ap (λ k. cond (is_id b.last_added_schema_id k) last_added k) zi))))
@@ -66,11 +66,11 @@ returns g c =
     let z = to_z-of_z w32 j (search rules) in
     record {
       did =
-          noted G _ b (AddViewVersion w) c.record.result c.record.ensures.answer (with_last_version j (with_versions (pushed y b.versions) b)) refl refl
+          noted G _ b (AddViewVersion w) c.record.result c.record.ensures.answer (with_last_version j (with_versions (pushed y b.view.versions) b)) refl refl
           (version_entered G b c.args.version i c.in_ok-schema_id.ensures (Ok j) c.in_ok-id.ensures j y w refl
           (c.with_id-stored.ensures ∙ (λ h. renumbered (z h) ((c.with_schema_id.ensures ∙ ap (λ k. of_schema k c.args.version) zi) h)))
           (c.with_schema_id-view_version.ensures ∙ ap (λ k. of_schema k y) (to_z-of_z w32 c.as_recorded.result (search rules) ∙ (c.as_recorded.ensures ∙ ap (λ k. cond (is_id b.last_added_schema_id k) last_added k) zi))))
           _ _ _ c.in_ok-record.was
-          (λ h. with_last_version (z h) (with_versions ((c.push.ensures.register ∙ ap (λ t. pushed y t.versions) c.record.ensures.builder) h) (c.record.ensures.builder h)));
+          (λ h. with_last_version (z h) (with_versions ((c.push.ensures.register ∙ ap (λ t. pushed y t.view.versions) c.record.ensures.builder) h) (c.record.ensures.builder h)));
       answer = search rules;
     }

@@ -12,7 +12,7 @@ returns g c =
     let t = to_z-of_z w64 c.map_or-timestamp_ms.result (search rules) in
     let timed : MatchOption c.find.result (c.map_or-timestamp_ms.result ≡ c.args.clock) (λ v. c.map_or-timestamp_ms.result ≡ v.timestamp_ms) = search rules in
     (λ j. record { id = i j; time = t j })
-    ∙ (entry_timed c.args.self.now.text.now c.args.id c.args.clock c.map_or-timestamp_ms.result c.find.result timed
+    ∙ (entry_timed c.args.self.now.view.text.now c.args.id c.args.clock c.map_or-timestamp_ms.result c.find.result timed
     ∙ sym (entry_found (reading g.S.Identified g.S.Numbered g.S.SchemaKind) c.args.self.now c.args.clock c.args.id c.find.result
     c.items-held.result.now c.min-start.result c.items-held.ensures c.min-start.ensures
     (c.find.ensures ∙ (λ j. find (λ v. v.version_id) (i j) (take_rest c.items-held.result.now c.min-start.result j)))))

@@ -7,4 +7,4 @@ use Rattle.view.proofs.view_metadata_builder.ViewMetadataBuilder.num_added_versi
 
 pub returns : goal.returns
 returns g c =
-    c.num_adding.ensures ∙ (ap (count_by adds_version) c.items.ensures ∙ sym (additions_counted (reading g.S.Identified g.S.Numbered g.S.SchemaKind) c.args.self.now.text.now (held_in c.args.self.now.changes)))
+    c.num_adding.ensures ∙ (ap (count_by adds_version) c.items.ensures ∙ sym (additions_counted (reading g.S.Identified g.S.Numbered g.S.SchemaKind) c.args.self.now.view.text.now (held_in c.args.self.now.view.changes)))

@@ -16,13 +16,13 @@ pub returns-in_err-version_id : goal.returns-in_err-version_id
 returns-in_err-version_id g c =
     let G = reading g.S.Identified g.S.Numbered g.S.SchemaKind in
     let b = c.args.self.now in
-    let x = schema_in G b.text.now c.args.schema.now in
-    let v = version_in b.text.now c.args.version in
+    let x = schema_in G b.view.text.now c.args.schema.now in
+    let v = version_in b.view.text.now c.args.version in
     let i = c.in_ok-schema_id.schema_id in
     let r = c.in_ok-schema_id.recorded in
-    let first = ap (λ n. counted (room b.changes) n r) (ap length c.items.ensures ∙ sym (length-map (held_in b.changes) (change_of G b.text.now))) in
+    let first = ap (λ n. counted (room b.view.changes) n r) (ap length c.items.ensures ∙ sym (length-map (held_in b.view.changes) (change_of G b.view.text.now))) in
     let n = c.in_ok-changes.changes in
-    let under = ap (λ w. version_choice (model_of G b) (version_in b.text.now w)) (c.with_schema_id.ensures ∙ ap (λ z. of_schema z c.args.version) (to_z-of_z w32 i (search rules))) in
+    let under = ap (λ w. version_choice (model_of G b) (version_in b.view.text.now w)) (c.with_schema_id.ensures ∙ ap (λ z. of_schema z c.args.version) (to_z-of_z w32 i (search rules))) in
     let f = c.in_err-version_id.field-0.0 in
     meant_by _ f c.from_residual-in_err-version_id.ensures.1 ∙ plan_version g.S.Numbered.alike (model_of G b) x v i r n c.in_ok-schema_id.ensures (c.in_ok-changes.ensures ∙ first) (Err (fault_of f)) (c.in_err-version_id.ensures ∙ under)
 
@@ -30,13 +30,13 @@ pub returns-in_err-changes-2 : goal.returns-in_err-changes-2
 returns-in_err-changes-2 g c =
     let G = reading g.S.Identified g.S.Numbered g.S.SchemaKind in
     let b = c.args.self.now in
-    let x = schema_in G b.text.now c.args.schema.now in
-    let v = version_in b.text.now c.args.version in
+    let x = schema_in G b.view.text.now c.args.schema.now in
+    let v = version_in b.view.text.now c.args.version in
     let i = c.in_ok-schema_id.schema_id in
     let r = c.in_ok-schema_id.recorded in
-    let first = ap (λ n. counted (room b.changes) n r) (ap length c.items.ensures ∙ sym (length-map (held_in b.changes) (change_of G b.text.now))) in
+    let first = ap (λ n. counted (room b.view.changes) n r) (ap length c.items.ensures ∙ sym (length-map (held_in b.view.changes) (change_of G b.view.text.now))) in
     let n = c.in_ok-changes.changes in
-    let under = ap (λ w. version_choice (model_of G b) (version_in b.text.now w)) (c.with_schema_id.ensures ∙ ap (λ z. of_schema z c.args.version) (to_z-of_z w32 i (search rules))) in
+    let under = ap (λ w. version_choice (model_of G b) (version_in b.view.text.now w)) (c.with_schema_id.ensures ∙ ap (λ z. of_schema z c.args.version) (to_z-of_z w32 i (search rules))) in
     let j = c.in_ok-version_id.version_id in
     let q = c.in_ok-version_id.recorded in
     let f = c.in_err-changes-2.field-0.0 in
@@ -46,16 +46,16 @@ pub returns : goal.returns
 returns g c =
     let G = reading g.S.Identified g.S.Numbered g.S.SchemaKind in
     let b = c.args.self.now in
-    let x = schema_in G b.text.now c.args.schema.now in
-    let v = version_in b.text.now c.args.version in
+    let x = schema_in G b.view.text.now c.args.schema.now in
+    let v = version_in b.view.text.now c.args.version in
     let i = c.in_ok-schema_id.schema_id in
     let r = c.in_ok-schema_id.recorded in
-    let first = ap (λ n. counted (room b.changes) n r) (ap length c.items.ensures ∙ sym (length-map (held_in b.changes) (change_of G b.text.now))) in
+    let first = ap (λ n. counted (room b.view.changes) n r) (ap length c.items.ensures ∙ sym (length-map (held_in b.view.changes) (change_of G b.view.text.now))) in
     let n = c.in_ok-changes.changes in
-    let under = ap (λ w. version_choice (model_of G b) (version_in b.text.now w)) (c.with_schema_id.ensures ∙ ap (λ z. of_schema z c.args.version) (to_z-of_z w32 i (search rules))) in
+    let under = ap (λ w. version_choice (model_of G b) (version_in b.view.text.now w)) (c.with_schema_id.ensures ∙ ap (λ z. of_schema z c.args.version) (to_z-of_z w32 i (search rules))) in
     let j = c.in_ok-version_id.version_id in
     let q = c.in_ok-version_id.recorded in
     let m = c.in_ok-changes-2.changes in
-    let same : eqb (of_z w32 j) (of_z w32 b.current_version_id) ≡ same_number j b.current_version_id = search rules in
-    let set = ap (λ z. counted (room b.changes) m (not z)) same in
+    let same : eqb (of_z w32 j) (of_z w32 b.view.current_version_id) ≡ same_number j b.view.current_version_id = search rules in
+    let set = ap (λ z. counted (room b.view.changes) m (not z)) same in
     plan_last g.S.Numbered.alike (model_of G b) x v i r n c.in_ok-schema_id.ensures (c.in_ok-changes.ensures ∙ first) j q (c.in_ok-version_id.ensures ∙ under) m c.in_ok-changes-2.ensures _ (c.count_change-3.ensures ∙ set)

@@ -11,7 +11,7 @@ returns-in_err-current g c =
     let e = c.in_err-current.ensures in
     built_err g.S.Identified g.S.Numbered g.S.SchemaKind b c.from_residual.result f c.from_residual.ensures.1
     ∙ (ap Err (none_means c.find.result c.new.result f _ e.ok_part e.value c.new.ensures)
-    ∙ build_without g.S.Identified g.S.Numbered g.S.SchemaKind b (looked_up g.S.Identified g.S.Numbered g.S.SchemaKind b _ _ c.find.result c.find.ensures (to_z-of_z w32 b.current_version_id (search rules)) c.items.ensures ∙ e.ok_part))
+    ∙ build_without g.S.Identified g.S.Numbered g.S.SchemaKind b (looked_up g.S.Identified g.S.Numbered g.S.SchemaKind b _ _ c.find.result c.find.ensures (to_z-of_z w32 b.view.current_version_id (search rules)) c.items.ensures ∙ e.ok_part))
 
 pub returns-then-not-holds_id : goal.returns-then-not-holds_id
 returns-then-not-holds_id g c =
@@ -19,7 +19,7 @@ returns-then-not-holds_id g c =
     let v = c.in_ok-current.current in
     ap Err c.new-then-not-holds_id.ensures
     ∙ build_by g.S.Identified g.S.Numbered g.S.SchemaKind b v false _ _
-    (looked_up g.S.Identified g.S.Numbered g.S.SchemaKind b _ _ c.find.result c.find.ensures (to_z-of_z w32 b.current_version_id (search rules)) c.items.ensures ∙ c.in_ok-current.ensures.ok_part)
+    (looked_up g.S.Identified g.S.Numbered g.S.SchemaKind b _ _ c.find.result c.find.ensures (to_z-of_z w32 b.view.current_version_id (search rules)) c.items.ensures ∙ c.in_ok-current.ensures.ok_part)
     (schema_held g.S.Identified g.S.Numbered g.S.SchemaKind b v _ _ c.holds_id.result c.holds_id.ensures (to_z-of_z w32 v.schema_id (search rules)) c.items-2.ensures ∙ c.if-not-holds_id.true)
     refl refl
 
@@ -29,7 +29,7 @@ returns-then-would_lose_dialect g c =
     let v = c.in_ok-current.current in
     ap Err c.new-then-would_lose_dialect.ensures
     ∙ build_by g.S.Identified g.S.Numbered g.S.SchemaKind b v true true _
-    (looked_up g.S.Identified g.S.Numbered g.S.SchemaKind b _ _ c.find.result c.find.ensures (to_z-of_z w32 b.current_version_id (search rules)) c.items.ensures ∙ c.in_ok-current.ensures.ok_part)
+    (looked_up g.S.Identified g.S.Numbered g.S.SchemaKind b _ _ c.find.result c.find.ensures (to_z-of_z w32 b.view.current_version_id (search rules)) c.items.ensures ∙ c.in_ok-current.ensures.ok_part)
     (schema_held g.S.Identified g.S.Numbered g.S.SchemaKind b v _ _ c.holds_id.result c.holds_id.ensures (to_z-of_z w32 v.schema_id (search rules)) c.items-2.ensures ∙ c.if-not-holds_id.false)
     (sym c.would_lose_dialect.ensures ∙ c.if-would_lose_dialect.true) refl
 
@@ -39,7 +39,7 @@ returns-then-is_log_over g c =
     let v = c.in_ok-current.current in
     ap Err c.new-then-is_log_over.ensures
     ∙ build_by g.S.Identified g.S.Numbered g.S.SchemaKind b v true false true
-    (looked_up g.S.Identified g.S.Numbered g.S.SchemaKind b _ _ c.find.result c.find.ensures (to_z-of_z w32 b.current_version_id (search rules)) c.items.ensures ∙ c.in_ok-current.ensures.ok_part)
+    (looked_up g.S.Identified g.S.Numbered g.S.SchemaKind b _ _ c.find.result c.find.ensures (to_z-of_z w32 b.view.current_version_id (search rules)) c.items.ensures ∙ c.in_ok-current.ensures.ok_part)
     (schema_held g.S.Identified g.S.Numbered g.S.SchemaKind b v _ _ c.holds_id.result c.holds_id.ensures (to_z-of_z w32 v.schema_id (search rules)) c.items-2.ensures ∙ c.if-not-holds_id.false)
     (sym c.would_lose_dialect.ensures ∙ c.if-would_lose_dialect.false)
     (sym c.is_log_over.ensures ∙ c.if-is_log_over.true)
@@ -49,7 +49,7 @@ returns g c =
     let b = c.args.self.now in
     let v = c.in_ok-current.current in
     build_by g.S.Identified g.S.Numbered g.S.SchemaKind b v true false false
-    (looked_up g.S.Identified g.S.Numbered g.S.SchemaKind b _ _ c.find.result c.find.ensures (to_z-of_z w32 b.current_version_id (search rules)) c.items.ensures ∙ c.in_ok-current.ensures.ok_part)
+    (looked_up g.S.Identified g.S.Numbered g.S.SchemaKind b _ _ c.find.result c.find.ensures (to_z-of_z w32 b.view.current_version_id (search rules)) c.items.ensures ∙ c.in_ok-current.ensures.ok_part)
     (schema_held g.S.Identified g.S.Numbered g.S.SchemaKind b v _ _ c.holds_id.result c.holds_id.ensures (to_z-of_z w32 v.schema_id (search rules)) c.items-2.ensures ∙ c.if-not-holds_id.false)
     (sym c.would_lose_dialect.ensures ∙ c.if-would_lose_dialect.false)
     (sym c.is_log_over.ensures ∙ c.if-is_log_over.false)

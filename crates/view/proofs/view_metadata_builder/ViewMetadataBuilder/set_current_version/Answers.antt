@@ -19,8 +19,8 @@ returns-in_err-plan_current_version g c =
     let G = reading g.S.Identified g.S.Numbered g.S.SchemaKind in
     let k = g.S.Numbered.alike in
     let b = c.args.self.now in
-    let x = schema_in G b.text.now c.args.schema in
-    let v = version_in b.text.now c.args.version in
+    let x = schema_in G b.view.text.now c.args.schema in
+    let v = version_in b.view.text.now c.args.version in
     let f = c.in_err-plan_current_version.field-0.0 in
     left_on G _ b c.from_residual.result b f c.from_residual.ensures.1 refl
     (planned_err k (model_of G b) x v c.args.clock (fault_of f) c.in_err-plan_current_version.ensures)
@@ -30,8 +30,8 @@ returns-in_err-schema_id g c =
     let G = reading g.S.Identified g.S.Numbered g.S.SchemaKind in
     let k = g.S.Numbered.alike in
     let b = c.args.self.now in
-    let x = schema_in G b.text.now c.args.schema in
-    let v = version_in b.text.now c.args.version in
+    let x = schema_in G b.view.text.now c.args.schema in
+    let v = version_in b.view.text.now c.args.version in
     ok_not_err (sym (schema_stops k (model_of G b) x v c.args.clock (fault_of c.in_err-schema_id.field-0.0) (c.in_err-schema_id.ensures.did c.args.clock).as_defined)
     ∙ (planned_ok k (model_of G b) x v c.args.clock c.in_ok-plan_current_version.field-0 c.in_ok-plan_current_version.ensures).1)
 
@@ -40,8 +40,8 @@ returns-in_err-add_version g c =
     let G = reading g.S.Identified g.S.Numbered g.S.SchemaKind in
     let k = g.S.Numbered.alike in
     let b = c.args.self.now in
-    let x = schema_in G b.text.now c.args.schema in
-    let v = version_in b.text.now c.args.version in
+    let x = schema_in G b.view.text.now c.args.schema in
+    let v = version_in b.view.text.now c.args.version in
     let b₁ = c.add_schema.new.self in
     let made = c.in_ok-schema_id.ensures in
     let under =
@@ -56,8 +56,8 @@ returns g c =
     let G = reading g.S.Identified g.S.Numbered g.S.SchemaKind in
     let k = g.S.Numbered.alike in
     let b = c.args.self.now in
-    let x = schema_in G b.text.now c.args.schema in
-    let v = version_in b.text.now c.args.version in
+    let x = schema_in G b.view.text.now c.args.schema in
+    let v = version_in b.view.text.now c.args.version in
     let b₁ = c.add_schema.new.self in
     let made = c.in_ok-schema_id.ensures in
     let under =

@@ -30,9 +30,9 @@ returns-then-id-self g c =
     let G = reading g.S.Identified g.S.Numbered g.S.SchemaKind in
     let b = c.args.self.now in
     let v = to_z-of_z w32 c.args.version_id c.ranges.version_id in
-    let same : c.in_ok-id.id ≡ b.current_version_id = sym (to_z-of_z w32 c.in_ok-id.id (search rules)) ∙ (ap (to_z w32) c.if-id-self.true ∙ to_z-of_z w32 b.current_version_id (search rules)) in
+    let same : c.in_ok-id.id ≡ b.view.current_version_id = sym (to_z-of_z w32 c.in_ok-id.id (search rules)) ∙ (ap (to_z w32) c.if-id-self.true ∙ to_z-of_z w32 b.view.current_version_id (search rules)) in
     went G _ b tt b refl
-    (current_kept G b c.args.clock c.args.version_id c.in_ok-id.id (ap (λ i. resolved_id i b.last_added_version_id) (sym v) ∙ (sym c.resolved.ensures ∙ c.in_ok-id.ensures.ok_part)) (same_eq c.in_ok-id.id b.current_version_id same))
+    (current_kept G b c.args.clock c.args.version_id c.in_ok-id.id (ap (λ i. resolved_id i b.last_added_version_id) (sym v) ∙ (sym c.resolved.ensures ∙ c.in_ok-id.ensures.ok_part)) (same_eq c.in_ok-id.id b.view.current_version_id same))
 
 pub returns-then-not-holds_id : goal.returns-then-not-holds_id
 returns-then-not-holds_id g c =
@@ -40,8 +40,8 @@ returns-then-not-holds_id g c =
     let b = c.args.self.now in
     let v = to_z-of_z w32 c.args.version_id c.ranges.version_id in
     let z = to_z-of_z w32 c.in_ok-id.id (search rules) in
-    let other = same_no c.in_ok-id.id b.current_version_id (λ e. c.if-id-self.false (ap (of_z w32) e)) in
-    let absent : holds c.in_ok-id.id (map (λ x. x.version_id) (held_in b.versions.table)) ≡ false =
+    let other = same_no c.in_ok-id.id b.view.current_version_id (λ e. c.if-id-self.false (ap (of_z w32) e)) in
+    let absent : holds c.in_ok-id.id (map (λ x. x.version_id) (held_in b.view.versions.table)) ≡ false =
     sym (c.holds_id.ensures ∙ (λ t. holds (z t) (map (λ x. x.version_id) (c.items.ensures t)))) ∙ c.if-not-holds_id.true in
     left_by G _ b _ b _ c.new-then-not-holds_id.ensures refl
     (current_absent G b c.args.clock c.args.version_id c.in_ok-id.id (ap (λ i. resolved_id i b.last_added_version_id) (sym v) ∙ (sym c.resolved.ensures ∙ c.in_ok-id.ensures.ok_part)) other absent)
@@ -56,8 +56,8 @@ returns-in_err-record g c =
     let v = to_z-of_z w32 c.args.version_id c.ranges.version_id in
     let z = to_z-of_z w32 c.in_ok-id.id (search rules) in
     let t = to_z-of_z w64 c.args.clock c.ranges.clock in
-    let other = same_no c.in_ok-id.id b.current_version_id (λ s. c.if-id-self.false (ap (of_z w32) s)) in
-    let there : holds c.in_ok-id.id (map (λ x. x.version_id) (held_in b.versions.table)) ≡ true =
+    let other = same_no c.in_ok-id.id b.view.current_version_id (λ s. c.if-id-self.false (ap (of_z w32) s)) in
+    let there : holds c.in_ok-id.id (map (λ x. x.version_id) (held_in b.view.versions.table)) ≡ true =
     sym (c.holds_id.ensures ∙ (λ h. holds (z h) (map (λ x. x.version_id) (c.items.ensures h)))) ∙ c.if-not-holds_id.false in
     unrecorded G _ b (SetCurrentViewVersion (to_z w32 (of_z w32 k))) c.record.result c.record.ensures.answer (with_pending (Some e) (with_current j b)) refl refl
     (current_new G b c.args.clock c.args.version_id j (ap (λ i. resolved_id i b.last_added_version_id) (sym v) ∙ (sym c.resolved.ensures ∙ c.in_ok-id.ensures.ok_part)) other e (to_z w32 (of_z w32 k)) there
@@ -75,8 +75,8 @@ returns g c =
     let v = to_z-of_z w32 c.args.version_id c.ranges.version_id in
     let z = to_z-of_z w32 c.in_ok-id.id (search rules) in
     let t = to_z-of_z w64 c.args.clock c.ranges.clock in
-    let other = same_no c.in_ok-id.id b.current_version_id (λ s. c.if-id-self.false (ap (of_z w32) s)) in
-    let there : holds c.in_ok-id.id (map (λ x. x.version_id) (held_in b.versions.table)) ≡ true =
+    let other = same_no c.in_ok-id.id b.view.current_version_id (λ s. c.if-id-self.false (ap (of_z w32) s)) in
+    let there : holds c.in_ok-id.id (map (λ x. x.version_id) (held_in b.view.versions.table)) ≡ true =
     sym (c.holds_id.ensures ∙ (λ h. holds (z h) (map (λ x. x.version_id) (c.items.ensures h)))) ∙ c.if-not-holds_id.false in
     noted G _ b (SetCurrentViewVersion (to_z w32 (of_z w32 k))) c.record.result c.record.ensures.answer (with_pending (Some e) (with_current j b)) refl refl
     (current_new G b c.args.clock c.args.version_id j (ap (λ i. resolved_id i b.last_added_version_id) (sym v) ∙ (sym c.resolved.ensures ∙ c.in_ok-id.ensures.ok_part)) other e (to_z w32 (of_z w32 k)) there

@@ -21,7 +21,7 @@ returns-then-same_bytes g c clock =
     let G = reading g.S.Identified g.S.Numbered g.S.SchemaKind in
     let b = c.args.self.now in
     let u = c.without_trailing_slashes-location.result in
-    let same : same_bytes (bytes_of b.text.now u) (bytes_of b.text.now b.location) ≡ true = cc in
+    let same : same_bytes (bytes_of b.view.text.now u) (bytes_of b.view.text.now b.view.location) ≡ true = cc in
     went G _ b tt b refl (location_kept G b c.args.location clock u (sym c.in_ok-check.ensures) c.without_trailing_slashes-location.ensures.bytes same)
 
 pub returns-in_err-record : goal.returns-in_err-record
@@ -31,9 +31,9 @@ returns-in_err-record g c clock =
     let u = c.without_trailing_slashes-location.result in
     let e = c.without_trailing_slashes-location.ensures in
     let good = sym c.in_ok-check.ensures in
-    let other : same_bytes (bytes_of b.text.now u) (bytes_of b.text.now b.location) ≡ false = cc in
+    let other : same_bytes (bytes_of b.view.text.now u) (bytes_of b.view.text.now b.view.location) ≡ false = cc in
     unrecorded G _ b (SetLocation u) c.record.result c.record.ensures.answer (with_location u b) refl refl
-    (location_new G b c.args.location clock u good e.bytes (trimmed_sound b.text.now c.args.location u e.place e.length good) other)
+    (location_new G b c.args.location clock u good e.bytes (trimmed_sound b.view.text.now c.args.location u e.place e.length good) other)
     c.from_residual-in_err-record.result _ _ c.in_err-record.was c.from_residual-in_err-record.ensures.1 c.record.ensures.builder
 
 pub returns : goal.returns
@@ -43,7 +43,7 @@ returns g c clock =
     let u = c.without_trailing_slashes-location.result in
     let e = c.without_trailing_slashes-location.ensures in
     let good = sym c.in_ok-check.ensures in
-    let other : same_bytes (bytes_of b.text.now u) (bytes_of b.text.now b.location) ≡ false = cc in
+    let other : same_bytes (bytes_of b.view.text.now u) (bytes_of b.view.text.now b.view.location) ≡ false = cc in
     noted G _ b (SetLocation u) c.record.result c.record.ensures.answer (with_location u b) refl refl
-    (location_new G b c.args.location clock u good e.bytes (trimmed_sound b.text.now c.args.location u e.place e.length good) other)
+    (location_new G b c.args.location clock u good e.bytes (trimmed_sound b.view.text.now c.args.location u e.place e.length good) other)
     tt _ _ c.in_ok-record.was (λ j. with_location u (c.record.ensures.builder j))

@@ -38,9 +38,9 @@ returns g c clock =
     let G = reading g.S.Identified g.S.Numbered g.S.SchemaKind in
     let b = c.args.self.now in
     let ps = c.args.updates in
-    let set : answered (λ _. properties_of b.text.now c.set.new.self) c.set.result ≡ after_updates b.text.now ps.now b.properties =
-    subst (λ (d : ViewMetadataBuilder g.row.S.Denot). answered (λ _. properties_of d.text.now c.set.new.self) c.set.result ≡ after_updates d.text.now ps.now d.properties)
+    let set : answered (λ _. properties_of b.view.text.now c.set.new.self) c.set.result ≡ after_updates b.view.text.now ps.now b.view.properties =
+    subst (λ (d : ViewMetadataBuilder g.row.S.Denot). answered (λ _. properties_of b.view.text.now c.set.new.self) c.set.result ≡ after_updates b.view.text.now ps.now d.view.properties)
     c.record.ensures.builder c.set.ensures.answer in
     noted G _ b (SetProperties ps) c.record.result c.record.ensures.answer (with_properties c.set.new.self b) refl refl
-    (settings_noted G b ps.now clock (ap Ok (sym c.if-not-branch.false) ∙ c.in_ok-plan.ensures) (SetProperties ps) refl c.set.new.self c.set.result set (c.set.ensures.rest.room ∙ ap (λ d. room_of d.properties) c.record.ensures.builder))
+    (settings_noted G b ps.now clock (ap Ok (sym c.if-not-branch.false) ∙ c.in_ok-plan.ensures) (SetProperties ps) refl c.set.new.self c.set.result set (c.set.ensures.rest.room ∙ ap (λ d. room_of d.view.properties) c.record.ensures.builder))
     tt _ _ c.in_ok-record.was (λ j. with_properties c.set.new.self (c.record.ensures.builder j))

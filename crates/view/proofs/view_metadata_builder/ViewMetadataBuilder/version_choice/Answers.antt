@@ -17,7 +17,7 @@ returns-in-Some g c =
     let v = c.args.version.now in
     let z = to_z-of_z w32 c.in-Some.id (search rules) in
     (λ h. Ok (z h, not ((c.is_last.ensures ∙ ap (is_id b.last_added_version_id) z) h)))
-    ∙ (ap (version_given (model_of G b) (version_in b.text.now v)) (sym c.in-Some.is) ∙ version_held G b v (Ok c.in_ok-id.field-0) (version_given (model_of G b) (version_in b.text.now v)) c.in_ok-id.ensures)
+    ∙ (ap (version_given (model_of G b) (version_in b.view.text.now v)) (sym c.in-Some.is) ∙ version_held G b v (Ok c.in_ok-id.field-0) (version_given (model_of G b) (version_in b.view.text.now v)) c.in_ok-id.ensures)
 
 pub returns-in_err-require_fresh : goal.returns-in_err-require_fresh
 returns-in_err-require_fresh g c =
@@ -27,7 +27,7 @@ returns-in_err-require_fresh g c =
     let f = c.in_err-require_fresh.field-0.0 in
     meant_by _ f c.from_residual-in_err-require_fresh.ensures.1
     ∙ (version_new G b v (Err (fault_of f)) _ c.in_err-require_fresh.ensures refl
-    ∙ (ap (version_given (model_of G b) (version_in b.text.now v)) (sym c.in_default.is) ∙ version_held G b v (Ok c.in_ok-id.field-0) (version_given (model_of G b) (version_in b.text.now v)) c.in_ok-id.ensures))
+    ∙ (ap (version_given (model_of G b) (version_in b.view.text.now v)) (sym c.in_default.is) ∙ version_held G b v (Ok c.in_ok-id.field-0) (version_given (model_of G b) (version_in b.view.text.now v)) c.in_ok-id.ensures))
 
 pub returns-in_err-next_id : goal.returns-in_err-next_id
 returns-in_err-next_id g c =
@@ -37,7 +37,7 @@ returns-in_err-next_id g c =
     let f = c.in_err-next_id.field-0.0 in
     meant_by _ f c.from_residual-in_err-next_id.ensures.1
     ∙ (version_new G b v (Ok tt) (Err (fault_of f)) c.in_ok-require_fresh.ensures c.in_err-next_id.ensures
-    ∙ (ap (version_given (model_of G b) (version_in b.text.now v)) (sym c.in_default.is) ∙ version_held G b v (Ok c.in_ok-id.field-0) (version_given (model_of G b) (version_in b.text.now v)) c.in_ok-id.ensures))
+    ∙ (ap (version_given (model_of G b) (version_in b.view.text.now v)) (sym c.in_default.is) ∙ version_held G b v (Ok c.in_ok-id.field-0) (version_given (model_of G b) (version_in b.view.text.now v)) c.in_ok-id.ensures))
 
 pub returns : goal.returns
 returns g c =
@@ -46,4 +46,4 @@ returns g c =
     let v = c.args.version.now in
     ap (λ i. Ok (i, true)) (to_z-of_z w32 c.in_ok-next_id.field-0 (search rules))
     ∙ (version_new G b v (Ok tt) (Ok c.in_ok-next_id.field-0) c.in_ok-require_fresh.ensures c.in_ok-next_id.ensures
-    ∙ (ap (version_given (model_of G b) (version_in b.text.now v)) (sym c.in_default.is) ∙ version_held G b v (Ok c.in_ok-id.field-0) (version_given (model_of G b) (version_in b.text.now v)) c.in_ok-id.ensures))
+    ∙ (ap (version_given (model_of G b) (version_in b.view.text.now v)) (sym c.in_default.is) ∙ version_held G b v (Ok c.in_ok-id.field-0) (version_given (model_of G b) (version_in b.view.text.now v)) c.in_ok-id.ensures))
