@@ -1,7 +1,6 @@
 -- The answers of a call as the model has them: accepted, left by a `?`, or ended by recording a change. Assumes nothing.
-use Rattle.std.proofs.Common.{◌≡◌, Bool, true, false, cond, ℤ, is_err, IsErrAnd, Some, None, Ok, Err, Option, Result, sym, refl, ap, ◌∙◌}
+use Rattle.std.proofs.Common.{◌≡◌, Bool, true, false, cond, IsErrAnd, Some, None, Ok, Err, Option, Result, sym, refl, ap, ◌∙◌}
 use Rattle.std.specs.Option.{ok_or}
-use Rattle.std.proofs.lemmas.Bool.{true≢false}
 use Rattle.model.specs.State.{State}
 use Rattle.model.specs.Updates.{recorded}
 use Rattle.model.specs.Refusals as refusals
@@ -13,7 +12,7 @@ use Rattle.fault.specs.Meaning.{fault_of}
 use Rattle.fault.specs.declared.fault.Fault.{Fault}
 use Rattle.view.specs.declared.view_metadata_builder.ViewMetadataBuilder.{ViewMetadataBuilder}
 use Rattle.view.specs.declared.view_update.ViewUpdate.{ViewUpdate}
-use Rattle.view.specs.Meaning.{Reading, model_of, change_of, outcome, meant, unchanged_if_refused, answers_last, Did}
+use Rattle.view.specs.Meaning.{Reading, model_of, change_of, outcome, meant, unchanged_if_refused, Did}
 use Rattle.view.specs.Steps.{with_changes}
 use Rattle.view.proofs.Recording.{recorded_ok, recorded_not}
 
@@ -35,11 +34,6 @@ meant_by (Ok a) f e = absurd e
 pub none_means : {A : Type 0} (o : Option A) (d f : Fault) (m : refusals.Fault) → o ≡ None → Err f ≡ ok_or o d → fault_of d ≡ m → fault_of f ≡ m
 none_means None d f m p e q = let is : f ≡ d = cc in ap fault_of is ∙ q
 none_means (Some a) d f m p e q = absurd (cc)
-
--- a refusal answers no id
-pub no_answer : (s : Result ℤ Fault) (last : Option ℤ) → is_err s ≡ true → answers_last s last
-no_answer (Ok i) last e = absurd (true≢false (sym e))
-no_answer (Err f) last e = tt
 
 -- what the answer of recording says of the room
 room_from : (full : Bool) (r : Result (Unit {0}) Fault) (x : Unit {0}) → meant r ≡ refuse full changes_fault (Ok tt) → r ≡ Ok x → full ≡ false

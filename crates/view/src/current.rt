@@ -52,6 +52,7 @@ impl<'t, 'a, 'v, S: SchemaKind> ViewMetadataBuilder<'t, 'a, 'v, S> {
     }
 
     // The id that an add of the schema gives, and whether it is recorded.
+    // Kept: a pair and no Option, since there is an id in both cases; the one caller takes it apart at once.
     fn schema_choice(&self, schema: &S) -> Result<(i32, bool), Fault>
         ensures { meant result ≡ schema_choice S.Numbered.alike (model_of S.SchemaKind self.now) (schema_in S.SchemaKind self.now.view.text.now schema.now) }
     {

@@ -22,6 +22,7 @@ use version::view_version::ViewVersion;
 
 impl<'t, 'a, 'v, S: SchemaKind> ViewMetadataBuilder<'t, 'a, 'v, S> {
     // Reuse of the held version with that id.
+    // Kept: beside reuse_schema; each sets a field of its own, and one function for both would be handed all that differs.
     fn reuse_version(&mut self, version: ViewVersion<'v>, id: i32) -> Result<i32, Fault>
         ensures did { Did S.SchemaKind (reuse_or_add_version (model_of S.SchemaKind self.old) (version_in self.old.view.text.now version.entry) (Some id)) self.old result self.new }
         ensures answer { answers_last result self.new.last_added_version_id }
@@ -65,6 +66,7 @@ impl<'t, 'a, 'v, S: SchemaKind> ViewMetadataBuilder<'t, 'a, 'v, S> {
     }
 
     // A new version, under the next id.
+    // Kept: beside enter_schema, which asks for no schema and records the greatest field number.
     fn enter_version(&mut self, version: ViewVersion<'v>) -> Result<i32, Fault>
         ensures did { Did S.SchemaKind (reuse_or_add_version (model_of S.SchemaKind self.old) (version_in self.old.view.text.now version.entry) None) self.old result self.new }
         ensures answer { answers_last result self.new.last_added_version_id }
