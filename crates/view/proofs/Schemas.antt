@@ -1,7 +1,7 @@
 -- Adding a schema, as the model has it. Assumes nothing.
 use Rattle.std.proofs.Common.{◌≡◌, ℕ, true, false, cond, List, [], ◌∷◌, ◌++◌, map, ℤ, pos, Some, None, Ok, Err, Option, Result, sym, ap, ◌∙◌, length-set}
 use Rattle.model.specs.Bytes.{Bytes}
-use Rattle.model.specs.Ids.{is_id, next_id, ids_used_up, lowest_id_where}
+use Rattle.model.specs.Ids.{next_id, ids_used_up, lowest_id_where}
 use Rattle.model.specs.Version.{Schema, schema_ids}
 use Rattle.model.specs.Refusals.{Fault, fault, refuse, refuse_with, then, full, no_id_left, limit_reached, schemas_part}
 use Rattle.model.specs.State.{SchemaIn, State, add_schema, schema_added}
@@ -37,10 +37,6 @@ module _ {X : Type 0} (g : Reading X) (b : ViewMetadataBuilder X) (x : X) where
       (y : X) (j : ℤ) → y ≡ g.copied j x → schema_in g block y ≡ schema_with_id j handed
   copied_in renamed contents verdicts part y j e =
       ap (schema_in g block) e ∙ (λ h. record { id = renamed j x h; content = contents block j x h; greatest_field = part block block (g.copied j x) x (contents block j x) h; verdict = verdicts block j x h })
-
-  pub reuse_noted : (j : ℤ) (y : X) → is_id b.last_added_schema_id j ≡ false → schema_in g block y ≡ schema_with_id j handed →
-      reuse_or_add_schema (model_of g b) handed (Some j) ≡ recorded (change_of g block (AddSchema y None)) (model_of g (with_last_schema j b))
-  reuse_noted j y h e = simp h (ap (λ z. recorded (schema_added z None) (model_of g (with_last_schema j b))) (sym e))
 
   -- what follows the search for a held one
   pub schema_held : {B : Type 0} (r : Result (Option ℤ) Fault) (k : Option ℤ → Result B Fault) →
