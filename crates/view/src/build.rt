@@ -66,12 +66,12 @@ impl<'t, 'a, 'v, S: SchemaKind> ViewMetadataBuilder<'t, 'a, 'v, S> {
     fn require_buildable(&self) -> Result<(), Fault>
         ensures { build_after S.SchemaKind self.now result ≡ build (model_of S.SchemaKind self.now) }
     {
-        let current = find(
-            self.view.versions.table.items(),
-            self.view.current_version_id,
-        )
-        .ok_or(Fault::new(Refusal::NoCurrentVersion, Part::Builder))?;
-        if !holds_id(self.view.schemas.table.items(), current.schema_id) {
+        let view = &self.view;
+        let current = find(view.versions.table.items(), view.current_version_id).ok_or(Fault::new(
+            Refusal::NoCurrentVersion,
+            Part::Builder,
+        ))?;
+        if !holds_id(view.schemas.table.items(), current.schema_id) {
             return Err(Fault::new(Refusal::SchemaNotHeld, Part::Versions));
         }
         if self.would_lose_dialect(&current) {
