@@ -1,7 +1,7 @@
 use print::print::Printer;
 use schema::sealed::SealedSchema;
 use std::alloc::AllocError;
-use view::build::Built;
+use view::view::View;
 use view::view_metadata::ViewMetadata;
 use view::view_update::ViewUpdate;
 
@@ -95,7 +95,7 @@ fn print_open(
 // The built metadata and the recorded changes.
 pub fn print_built(
     printer: &mut Printer<'_>,
-    built: &Built<'_, '_, '_, SealedSchema>,
+    built: &View<'_, '_, '_, SealedSchema>,
 ) -> Result<(), AllocError> {
     let metadata = built.metadata();
     printer.words("# metadata\n")?;

@@ -1,5 +1,6 @@
 -- The number and letter of each refusal and part, and a fault of the code as the rules have it. Assumes nothing.
-use Rattle.std.specs.Prelude.{ℕ}
+use Rattle.std.specs.Prelude.{ℕ, List, ◌∷◌, ◌++◌}
+use Rattle.std.specs.Fmt.{decimal}
 use Rattle.model.specs.Refusals as refusals
 use Rattle.model.specs.Refusals.{bad_text, non_ascii_dialect, unknown_format, malformed, no_current_version, schema_not_held, no_schema_added, no_version_added, version_not_held, repeated_dialect, time_too_early, negative_history_size, lost_dialect, no_id_left, limit_reached, schemas_part, versions_part, properties_part, log_part, changes_part, builder_part}
 use Rattle.fault.specs.declared.fault.Refusal.{Refusal}
@@ -38,3 +39,7 @@ part_of Builder = builder_part
 -- a fault
 abbrev pub fault_of : Fault → refusals.Fault
 fault_of f = record { number = number_of f.refusal; part = part_of f.part; position = f.position }
+
+-- a fault as it is printed: its number, the letter of its part, and its position
+abbrev pub shown : refusals.Fault → List ℕ
+shown f = decimal f.number ++ 32 ∷ refusals.letter f.part ∷ 32 ∷ decimal f.position

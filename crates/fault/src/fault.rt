@@ -1,6 +1,8 @@
-ghost use Rattle.std.specs.Prelude.{◌≡◌};
-ghost use Rattle.model.specs.Refusals.{letter};
-ghost use Rattle.fault.specs.Meaning.{number_of, part_of};
+ghost use Rattle.std.specs.Prelude.{◌≡◌, Some};
+ghost use Rattle.model.specs.Refusals.{fault, letter};
+ghost use Rattle.fault.specs.Meaning.{number_of, part_of, fault_of, shown};
+
+use std::fmt;
 
 // Why a call refuses; each case has the number of the table of refusals.
 #[derive(Clone, Copy)]
@@ -62,4 +64,29 @@ pub struct Fault {
     pub refusal: Refusal,
     pub part: Part,
     pub position: usize,
+}
+
+impl Fault {
+    // A fault at position 0.
+    pub fn new(refusal: Refusal, part: Part) -> Fault
+        ensures { fault_of result ≡ fault (number_of refusal) (part_of part) }
+    {
+        Fault {
+            refusal,
+            part,
+            position: 0,
+        }
+    }
+}
+
+// NUMBER LETTER POSITION, as `15 S 0`.
+impl fmt::Display for Fault {
+    ghost output = { λ f. Some (shown (fault_of f)) };
+
+    fn fmt<W: fmt::Write>(&self, f: &mut fmt::Formatter<W>) -> fmt::Result {
+        let number = self.refusal.number();
+        let letter = self.part.letter();
+        let position = self.position;
+        write!(f, "{number} {letter} {position}")
+    }
 }

@@ -1,5 +1,5 @@
 ghost use Rattle.std.specs.Prelude.{◌≡◌, not, is_ok};
-ghost use Rattle.register.specs.Tables.{held_in, is_full, after_push, after_insert, kept_from};
+ghost use Rattle.register.specs.Tables.{held_in, room, is_full, after_push, after_insert, kept_from};
 
 // No slot is free.
 #[derive(Clone, Copy)]
@@ -18,6 +18,7 @@ impl<'a, T> Table<'a, T> {
     pub fn over<const N: usize>(slots: &'a mut [T; N]) -> Table<'a, T>
         ensures none { result.held ≡ 0 }
         ensures slots { result.slots.now ≡ slots.old }
+        ensures room { room result ≡ N }
     {
         Table { slots, held: 0 }
     }

@@ -1,5 +1,5 @@
 -- Setting the id of the current version, as the model has it. Assumes nothing.
-use Rattle.std.proofs.Common.{◌≡◌, ℕ, ◌≤◌, min, true, false, cond, leb, List, [], ◌∷◌, map, length, drop, ℤ, Some, None, Ok, Err, Option, sym, refl, ap, ◌∙◌, inl, inr, arith}
+use Rattle.std.proofs.Common.{◌≡◌, ℕ, ◌≤◌, min, true, false, cond, leb, List, map, length, drop, ℤ, Some, None, MatchOption, Ok, Err, Option, sym, ap, ◌∙◌, inl, inr, arith}
 use mathlib.Core.List.{map-map}
 use Rattle.std.specs.Option.{option_map}
 use Rattle.std.proofs.lemmas.List.{drop_all, drop-map}
@@ -11,7 +11,7 @@ use Rattle.model.specs.Refusals.{fault, no_version_added, version_not_held, buil
 use Rattle.model.specs.State.{entered, set_current_version_id}
 use Rattle.model.specs.Updates.{recorded}
 use Rattle.model.specs.Edits.{edit, after_set_current, log_entry, log_entry_of}
-use Rattle.model.specs.Version.{version_ids}
+use Rattle.model.specs.Version.{LogEntry, version_ids}
 use Rattle.register.specs.Tables.{held_in}
 use Rattle.version.specs.declared.view_version.ViewVersion.{ViewVersion}
 use Rattle.version.specs.declared.view_version.ViewVersionLog.{ViewVersionLog}
@@ -20,15 +20,7 @@ use Rattle.view.specs.declared.view_metadata_builder.ViewMetadataBuilder.{ViewMe
 use Rattle.view.specs.declared.view_update.ViewUpdate.TheVariants.{SetCurrentViewVersion}
 use Rattle.view.specs.Meaning.{Reading, model_of, change_of}
 use Rattle.view.specs.Steps.{with_current, with_pending}
-
--- the first with an id, and its meaning
-find_mapped : {A B : Type 0} (f : A → B) (id_of : B → ℤ) (i : ℤ) (xs : List A) → find id_of i (map f xs) ≡ option_map f (find (λ x. id_of (f x)) i xs)
-find_mapped f id_of i [] = refl
-find_mapped f id_of i (x ∷ xs) =
-    elim (cases_Bool (same_number (id_of (f x)) i)) [
-      | inl h ↦ simp h
-      | inr h ↦ simp h (find_mapped f id_of i xs)
-    ]
+use Rattle.view.proofs.Mapped.{find_mapped}
 
 -- past the end there is no more to drop
 drop_min : {A : Type 0} (n : ℕ) (xs : List A) → drop (min n (length xs)) xs ≡ drop n xs
@@ -41,12 +33,17 @@ drop_min n xs =
           drop_all (min n (length xs)) xs e ∙ sym (drop_all n xs f)
     ]
 
+-- the entry with the time of the version that was found, or the clock's
+pub entry_timed : (block : Bytes) (i clock t : ℤ) (o : Option ViewVersion) → MatchOption o (t ≡ clock) (λ v. t ≡ v.timestamp_ms) → ◌≡◌ {A = LogEntry} (record { id = i; time = t }) (log_entry_of i clock (option_map (version_of block) o))
+entry_timed block i clock t None e = ap (λ z. record { id = i; time = z }) e
+entry_timed block i clock t (Some v) e = ap (λ z. record { id = i; time = z }) e
+
 module _ {X : Type 0} (g : Reading X) (b : ViewMetadataBuilder X) (clock : ℤ) where
   abbrev block : Bytes
-  block = b.text.now
+  block = b.view.text.now
 
   abbrev held : List ViewVersion
-  held = held_in b.versions.table
+  held = held_in b.view.versions.table
 
   -- the log entry, from what is found among the versions entered as new
   pub entry_found : (i : ℤ) (o : Option ViewVersion) (xs : List ViewVersion) (n : ℕ) → xs ≡ held → n ≡ min b.opened_versions (length xs) →
@@ -66,11 +63,11 @@ module _ {X : Type 0} (g : Reading X) (b : ViewMetadataBuilder X) (clock : ℤ) 
 
     module _ (j : ℤ) (is : resolved_id i b.last_added_version_id ≡ Some j) where
       -- the present one
-      pub current_kept : same_number j b.current_version_id ≡ true → edit g.alike (model_of g b) (set_current_version_id i) clock ≡ Ok (model_of g b)
+      pub current_kept : same_number j b.view.current_version_id ≡ true → edit g.alike (model_of g b) (set_current_version_id i) clock ≡ Ok (model_of g b)
       unfolding edit after_set_current
       current_kept h = simp (is, h)
 
-      module _ (other : same_number j b.current_version_id ≡ false) where
+      module _ (other : same_number j b.view.current_version_id ≡ false) where
         ids : version_ids (map (version_of block) held) ≡ map (λ v. v.version_id) held
         ids = map-map (λ v. v.id) (version_of block) held
 

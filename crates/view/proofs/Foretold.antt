@@ -1,11 +1,11 @@
 -- The plan of set current version refuses as its three edits do. Assumes nothing.
-use Rattle.std.proofs.Common.{◌≡◌, ℕ, ◌+◌, Bool, true, false, cond, not, ◌||◌, leb, ◌⊎◌, List, [], ◌∷◌, ◌++◌, map, length, ℤ, pos, Some, None, Ok, Err, filter, Option, Result, sym, refl, ap, ◌∙◌, subst, inl, inr, arith, length-append}
+use Rattle.std.proofs.Common.{◌≡◌, ℕ, ◌+◌, Bool, true, false, cond, not, ◌||◌, leb, ◌⊎◌, List, [], ◌∷◌, ◌++◌, map, length, ℤ, pos, Some, None, Ok, Err, filter, Option, Result, sym, refl, ap, ◌∙◌, subst, inl, inr, length-append}
 use lib.Signed.{lt_z}
 use Rattle.std.proofs.lemmas.Bool.{cases_Bool, true≢false}
 use Rattle.model.specs.Bytes.{same_bytes, repeats}
 use Rattle.model.specs.Ids.{is_id, same_number, next_id, ids_used_up, last_added, resolved_id, holds, lowest, lowest_id_where, least_of}
 use Rattle.model.specs.Refusals.{Fault, Part, fault, limit_reached, changes_part, schemas_part, versions_part, full, refuse, refuse_with, then}
-use Rattle.model.specs.State.{SchemaIn, VersionIn, State, Change, set_current_version}
+use Rattle.model.specs.State.{SchemaIn, VersionIn, State, Change, add_schema, add_version, set_current_version_id, set_current_version}
 use Rattle.model.specs.Updates.{with_schemas, state_of, with_schema_id, schema_with_id, stored_schema, version_with_id, stored_version}
 use Rattle.model.specs.Version.{Sameness, Schema, same_content, dialects, schema_ids, version_ids}
 use Rattle.model.specs.Edits.{edit, after_add_schema, reuse_or_add_schema, after_add_version, reuse_or_add_version, enter_under, enter, equal_version, too_early_for, after_set_current, set_current_to, under_last_added_schema}
@@ -62,7 +62,7 @@ least_is i j (Some k) e = elim (cases_Bool (lt_z k i)) [ inl h ↦ inr (ap Some 
 
 -- the lowest of those that pass a test is held
 lowest_held : {A : Type 0} (id_of : A → ℤ) (test : A → Bool) (xs : List A) (i : ℤ) → lowest_id_where id_of test xs ≡ Some i → holds i (map id_of xs) ≡ true
-lowest_held id_of test [] i e = let z : ◌≡◌ {A = ℕ} 0 1 = cc in absurd (omega arith)
+lowest_held id_of test [] i e = absurd (cc)
 lowest_held id_of test (x ∷ xs) i e =
     elim (cases_Bool (test x)) [
       | inl h ↦
@@ -218,18 +218,18 @@ module _ {C : Type 0} (k : Sameness C) (s : State C) where
     planned_ok n e = agree_ok (λ _ _. Unit {0}) (edit k s (set_current_version x v) clock) n (subst (λ z. Agree (λ _ _. Unit {0}) (edit k s (set_current_version x v) clock) z) (sym e) (foretold x v clock))
 
     -- each edit by its turn
-    pub schema_stops : (f : Fault) → Err f ≡ after_add_schema k s x → edit k s (set_current_version x v) clock ≡ Err f
+    pub schema_stops : (f : Fault) → Err f ≡ edit k s (add_schema x) clock → edit k s (set_current_version x v) clock ≡ Err f
     unfolding edit
     schema_stops f e = ap (λ r. then r (λ t. then (after_add_version t (under_last_added_schema t v)) (λ u. after_set_current u last_added clock))) (sym e)
 
-    module _ (t : State C) (first : Ok t ≡ after_add_schema k s x) where
-      pub version_stops : (f : Fault) → Err f ≡ after_add_version t (under_last_added_schema t v) → edit k s (set_current_version x v) clock ≡ Err f
+    module _ (t : State C) (first : Ok t ≡ edit k s (add_schema x) clock) where
+      pub version_stops : (f : Fault) → Err f ≡ edit k t (add_version (under_last_added_schema t v)) clock → edit k s (set_current_version x v) clock ≡ Err f
       unfolding edit
       version_stops f e =
           ap (λ r. then r (λ t. then (after_add_version t (under_last_added_schema t v)) (λ u. after_set_current u last_added clock))) (sym first)
           ∙ ap (λ r. then r (λ u. after_set_current u last_added clock)) (sym e)
 
-      pub all_three : (u : State C) → Ok u ≡ after_add_version t (under_last_added_schema t v) → after_set_current u last_added clock ≡ edit k s (set_current_version x v) clock
+      pub all_three : (u : State C) → Ok u ≡ edit k t (add_version (under_last_added_schema t v)) clock → edit k u (set_current_version_id last_added) clock ≡ edit k s (set_current_version x v) clock
       unfolding edit
       all_three u e =
           ap (λ r. then r (λ u. after_set_current u last_added clock)) e

@@ -1,8 +1,8 @@
+pub mod Readings
 pub mod Recording
 pub mod Outcomes
 pub mod Mapped
 pub mod NewIds
-pub mod Edits
 pub mod Location
 pub mod Schemas
 pub mod Starts

@@ -14,7 +14,7 @@ use Rattle.view.specs.Steps.{with_location}
 
 module _ {X : Type 0} (g : Reading X) (b : ViewMetadataBuilder X) (t : Text) (clock : ℤ) where
   abbrev block : Bytes
-  block = b.text.now
+  block = b.view.text.now
 
   -- a bad text
   pub location_bad : sound block t ≡ false → edit g.alike (model_of g b) (set_location (text_in block t)) clock ≡ Err text_fault
@@ -23,14 +23,14 @@ module _ {X : Type 0} (g : Reading X) (b : ViewMetadataBuilder X) (t : Text) (cl
 
   module _ (u : Text) (good : sound block t ≡ true) (is : bytes_of block u ≡ trimmed (bytes_of block t)) where
     -- the location that it has
-    pub location_kept : same_bytes (bytes_of block u) (bytes_of block b.location) ≡ true → edit g.alike (model_of g b) (set_location (text_in block t)) clock ≡ Ok (model_of g b)
+    pub location_kept : same_bytes (bytes_of block u) (bytes_of block b.view.location) ≡ true → edit g.alike (model_of g b) (set_location (text_in block t)) clock ≡ Ok (model_of g b)
     unfolding edit after_set_location
-    location_kept h = let same : same_bytes (trimmed (bytes_of block t)) (bytes_of block b.location) ≡ true = ap (λ x. same_bytes x (bytes_of block b.location)) (sym is) ∙ h in simp (good, same)
+    location_kept h = let same : same_bytes (trimmed (bytes_of block t)) (bytes_of block b.view.location) ≡ true = ap (λ x. same_bytes x (bytes_of block b.view.location)) (sym is) ∙ h in simp (good, same)
 
     -- another one: recorded, and set
-    pub location_new : sound block u ≡ true → same_bytes (bytes_of block u) (bytes_of block b.location) ≡ false →
+    pub location_new : sound block u ≡ true → same_bytes (bytes_of block u) (bytes_of block b.view.location) ≡ false →
         edit g.alike (model_of g b) (set_location (text_in block t)) clock ≡ recorded (change_of g block (SetLocation u)) (model_of g (with_location u b))
     unfolding edit after_set_location
     location_new sound_too h =
-        let other : same_bytes (trimmed (bytes_of block t)) (bytes_of block b.location) ≡ false = ap (λ x. same_bytes x (bytes_of block b.location)) (sym is) ∙ h in
+        let other : same_bytes (trimmed (bytes_of block t)) (bytes_of block b.view.location) ≡ false = ap (λ x. same_bytes x (bytes_of block b.view.location)) (sym is) ∙ h in
         simp (good, other, sound_too, is)

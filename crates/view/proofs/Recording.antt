@@ -24,10 +24,10 @@ one_more f t x h =
 
 module _ {X : Type 0} (g : Reading X) (b : ViewMetadataBuilder X) (u : ViewUpdate X) where
   -- recorded where there is room
-  pub recorded_ok : is_full b.changes ≡ false → recorded (change_of g b.text.now u) (model_of g b) ≡ Ok (model_of g (with_changes (after_push b.changes u) b))
+  pub recorded_ok : is_full b.view.changes ≡ false → recorded (change_of g b.view.text.now u) (model_of g b) ≡ Ok (model_of g (with_changes (after_push b.view.changes u) b))
   recorded_ok h =
-      simp (h, full_is (change_of g b.text.now) b.changes ∙ h, one_more (change_of g b.text.now) b.changes u h, length-set)
+      simp (h, full_is (change_of g b.view.text.now) b.view.changes ∙ h, one_more (change_of g b.view.text.now) b.view.changes u h, length-set)
 
   -- refused where there is none
-  pub recorded_not : is_full b.changes ≡ true → recorded (change_of g b.text.now u) (model_of g b) ≡ Err changes_fault
-  recorded_not h = simp (full_is (change_of g b.text.now) b.changes ∙ h)
+  pub recorded_not : is_full b.view.changes ≡ true → recorded (change_of g b.view.text.now u) (model_of g b) ≡ Err changes_fault
+  recorded_not h = simp (full_is (change_of g b.view.text.now) b.view.changes ∙ h)

@@ -8,11 +8,6 @@ use Rattle.fault.specs.Meaning.{fault_of}
 use Rattle.fault.specs.declared.fault.Fault.{Fault}
 use Rattle.view.specs.declared.begin.Beginning.{Beginning}
 
--- a test of what is handed in
-abbrev pub tested : Result (Unit {0}) Fault → Result (Unit {0}) refusals.Fault
-tested (Ok a) = Ok a
-tested (Err f) = Err (fault_of f)
-
 -- the metadata that the builder starts from, or a refusal
 abbrev pub begun : {C : Type 0} → Result Beginning Fault → Result (Metadata C) refusals.Fault
 begun (Ok x) = Ok (empty x.uuid)

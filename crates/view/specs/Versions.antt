@@ -1,13 +1,11 @@
--- A new version: the schema that it enters under, and the form in which it is recorded. Assumes nothing.
-use Rattle.std.specs.Prelude.{cond, not, ℤ, Some, None, Ok, Err, Option, Result}
+-- A new version: the schema that it enters under. Assumes nothing.
+use Rattle.std.specs.Prelude.{not, ℤ, Some, None, Ok, Err, Option, Result}
 use Rattle.model.specs.Bytes.{same_bytes, repeats}
-use Rattle.model.specs.Ids.{holds, is_id, last_added, resolved_id}
+use Rattle.model.specs.Ids.{holds, resolved_id}
 use Rattle.model.specs.Refusals.{Fault, fault, refuse, versions_part, no_schema_added, schema_not_held, repeated_dialect, time_too_early}
 use Rattle.model.specs.State.{VersionIn, State}
 use Rattle.model.specs.Version.{dialects, schema_ids}
 use Rattle.model.specs.Edits.{too_early_for}
-use Rattle.version.specs.declared.view_version.ViewVersion.{ViewVersion}
-use Rattle.version.specs.Meaning.{of_schema}
 
 module _ {C : Type 0} where
   -- the schema id that was resolved, if the version may enter under it: the schema is held, no dialect is repeated, the time is not too early
@@ -21,12 +19,3 @@ module _ {C : Type 0} where
   -- the schema id under which a version enters as new, or why it may not
   abbrev pub admitted_under : State C → VersionIn → Result ℤ Fault
   admitted_under s x = admitted s x (resolved_id x.content.schema_id s.last_added_schema)
-
--- an answer with its fault as the rules have it
-abbrev pub meant : {A E : Type 0} → (E → Fault) → Result A E → Result A Fault
-meant means (Ok a) = Ok a
-meant means (Err f) = Err (means f)
-
--- a new version as it is recorded: under schema -1 where its schema is the last added
-abbrev pub recorded_form : Option ℤ → ViewVersion → ViewVersion
-recorded_form last v = cond (is_id last v.schema_id) (of_schema last_added v) v

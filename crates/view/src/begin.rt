@@ -3,18 +3,18 @@ ghost use Rattle.model.specs.Refusals.{fault, refuse, unknown_format, builder_pa
 ghost use Rattle.model.specs.State.{upgrade_format};
 ghost use Rattle.model.specs.Start.{to_begin, begin_or_open, started, empty};
 ghost use Rattle.model.specs.Texts.{block_fits};
-ghost use Rattle.register.specs.Tables.{room};
-ghost use Rattle.view.specs.Beginnings.{begun, over_text, tested};
-ghost use Rattle.view.specs.Meaning.{reading, model_of, Applied};
+ghost use Rattle.view.specs.Beginnings.{begun, over_text};
+ghost use Rattle.view.specs.Meaning.{meant, model_of, Applied};
 
+use super::view::View;
 use super::view_metadata_builder::ViewMetadataBuilder;
 use super::view_update::ViewUpdate;
 use fault::fault::{Fault, Part, Refusal};
 use property::property::Properties;
-use text::property::Property;
 use register::register::Register;
 use register::table::Table;
 use schema::kind::SchemaKind;
+use text::property::Property;
 use text::text::{Text, check_block};
 use version::view_version::{ViewVersion, ViewVersionLog};
 
@@ -44,16 +44,12 @@ pub struct Beginning<'t> {
 
 // Refuses any other format version.
 fn check_format(format_version: u32) -> Result<(), Fault>
-    ensures { tested result ≡ refuse (not (nat_eq format_version 1)) (fault unknown_format builder_part) (Ok tt) }
+    ensures { meant result ≡ refuse (not (nat_eq format_version 1)) (fault unknown_format builder_part) (Ok tt) }
 {
     if format_version == FORMAT_VERSION {
         return Ok(());
     }
-    Err(Fault {
-        refusal: Refusal::UnknownFormat,
-        part: Part::Builder,
-        position: 0,
-    })
+    Err(Fault::new(Refusal::UnknownFormat, Part::Builder))
 }
 
 // Begins a view without a location, schemas or versions.
@@ -70,17 +66,9 @@ pub fn begin<'t>(
     Ok(Beginning { text, uuid })
 }
 
-// An empty table over the whole of a lent array.
-fn empty_table<'a, T, const N: usize>(slots: &'a mut [T; N]) -> Table<'a, T>
-    ensures none { result.held ≡ 0 }
-    ensures slots { result.slots.now ≡ slots.old }
-    ensures room { room result ≡ N }
-{
-    Table { slots, held: 0 }
-}
-
 impl<'t> Beginning<'t> {
     // The builder, with nothing in the lent tables yet.
+    // Kept: five arrays and not one struct of them; of an array of S behind a field it is not known that it fits in memory, and lend requires nothing.
     pub fn lend<'a, 'v, S: SchemaKind>(
         self,
         schemas: &'a mut [S; MAX_SCHEMAS],
@@ -89,32 +77,34 @@ impl<'t> Beginning<'t> {
         properties: &'a mut [Property; MAX_PROPERTIES],
         changes: &'a mut [ViewUpdate<'v, S>; MAX_CHANGES],
     ) -> ViewMetadataBuilder<'t, 'a, 'v, S>
-        ensures model { model_of (reading S.Identified S.Numbered.own S.SchemaKind.own) result ≡ started (empty self.entry.uuid) }
-        ensures text { result.text.now ≡ self.entry.text.now }
-        ensures schemas { result.schemas.table.slots.now ≡ schemas.old }
-        ensures versions { result.versions.table.slots.now ≡ versions.old }
-        ensures log { result.version_log.slots.now ≡ version_log.old }
-        ensures properties { result.properties.table.slots.now ≡ properties.old }
-        ensures changes { result.changes.slots.now ≡ changes.old }
+        ensures model { model_of S.SchemaKind result ≡ started (empty self.entry.uuid) }
+        ensures text { result.view.text.now ≡ self.entry.text.now }
+        ensures schemas { result.view.schemas.table.slots.now ≡ schemas.old }
+        ensures versions { result.view.versions.table.slots.now ≡ versions.old }
+        ensures log { result.view.version_log.slots.now ≡ version_log.old }
+        ensures properties { result.view.properties.table.slots.now ≡ properties.old }
+        ensures changes { result.view.changes.slots.now ≡ changes.old }
     {
-        let schemas = empty_table(schemas);
-        let versions = empty_table(versions);
-        let version_log = empty_table(version_log);
+        let schemas = Table::over(schemas);
+        let versions = Table::over(versions);
+        let version_log = Table::over(version_log);
         let properties = Properties::over(properties);
-        let changes = empty_table(changes);
+        let changes = Table::over(changes);
         ViewMetadataBuilder {
-            text: self.text,
-            uuid: self.uuid,
-            location: Text {
-                place: 0,
-                length: 0,
+            view: View {
+                text: self.text,
+                uuid: self.uuid,
+                location: Text {
+                    place: 0,
+                    length: 0,
+                },
+                current_version_id: NO_VERSION_ID,
+                schemas: Register { table: schemas },
+                versions: Register { table: versions },
+                version_log,
+                properties,
+                changes,
             },
-            current_version_id: NO_VERSION_ID,
-            schemas: Register { table: schemas },
-            versions: Register { table: versions },
-            version_log,
-            properties,
-            changes,
             opened_versions: 0,
             last_added_schema_id: None,
             last_added_version_id: None,
@@ -127,7 +117,7 @@ impl<'t> Beginning<'t> {
 impl<'t, 'a, 'v, S: SchemaKind> ViewMetadataBuilder<'t, 'a, 'v, S> {
     // Accepts the one format version; there is nothing to change or record.
     pub fn upgrade_format_version(&mut self, format_version: u32) -> Result<(), Fault>
-        ensures { (clock : ℤ) → Applied (reading S.Identified S.Numbered.own S.SchemaKind.own) (upgrade_format format_version) clock self.old result self.new }
+        ensures { (clock : ℤ) → Applied S.SchemaKind (upgrade_format format_version) clock self.old result self.new }
     {
         check_format(format_version)
     }

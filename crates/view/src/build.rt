@@ -1,4 +1,4 @@
-ghost use Rattle.std.specs.Prelude.{◌≡◌, false, not, ◌&&◌, map};
+ghost use Rattle.std.specs.Prelude.{◌≡◌, false, not, ◌&&◌, map, count_by};
 ghost use Rattle.std.specs.Option.{option_map};
 ghost use Rattle.model.specs.Refusals.{over};
 ghost use Rattle.model.specs.Settings.{drop_key};
@@ -6,37 +6,20 @@ ghost use Rattle.model.specs.Build.{build, additions, look_up, drop_allowed, los
 ghost use Rattle.register.specs.Tables.{held_in, room};
 ghost use Rattle.version.specs.Meaning.{version_of, content_of, entry_of};
 ghost use Rattle.property.specs.Meaning.{properties_of};
-ghost use Rattle.view.specs.Meaning.{reading, model_of};
+ghost use Rattle.view.specs.Meaning.{changes_of, model_of};
 ghost use Rattle.view.specs.Steps.{with_log};
-ghost use Rattle.view.specs.Finished.{adds_version, logged, changes_of, build_after, HoldsBuild, Builds, Shows};
+ghost use Rattle.view.specs.Finished.{adds_version, logged, build_after, HoldsBuild, Builds};
 
-use super::view_metadata::ViewMetadata;
+use super::view::View;
 use super::view_metadata_builder::ViewMetadataBuilder;
 use super::view_update::ViewUpdate;
 use dialect::dialects::loses_dialect;
 use expiry::expire::expire_versions;
 use expiry::log::update_version_log;
 use fault::fault::{Fault, Part, Refusal};
-use property::property::Properties;
-use register::register::{Register, find, holds_id};
-use register::table::Table;
+use register::register::{find, holds_id};
 use schema::kind::SchemaKind;
-use text::text::Text;
-use version::view_version::{ViewVersion, ViewVersionLog};
-
-// A built view: its metadata and the recorded changes, in the tables that were lent.
-#[derive(Drop)]
-pub struct Built<'t, 'a, 'v, S> {
-    pub text: &'t [u8],
-    pub uuid: [u8; 16],
-    pub location: Text,
-    pub current_version_id: i32,
-    pub schemas: Register<'a, S>,
-    pub versions: Register<'a, ViewVersion<'v>>,
-    pub version_log: Table<'a, ViewVersionLog>,
-    pub properties: Properties<'a>,
-    pub changes: Table<'a, ViewUpdate<'v, S>>,
-}
+use version::view_version::ViewVersion;
 
 // Why no view is built, and the builder as it was.
 #[derive(Drop)]
@@ -45,119 +28,88 @@ pub struct Refused<'t, 'a, 'v, S> {
     pub builder: ViewMetadataBuilder<'t, 'a, 'v, S>,
 }
 
-// Whether the change adds a version.
-fn adds_version<S>(change: &ViewUpdate<'_, S>) -> bool
-    ensures { result ≡ adds_version change.now }
+// How many of the changes add a version.
+fn num_adding<S: SchemaKind>(changes: &[ViewUpdate<'_, S>]) -> usize
+    ensures { result ≡ count_by adds_version changes.now }
 {
-    match change {
-        ViewUpdate::AddViewVersion { .. } => true,
-        _ => false,
-    }
+    changes
+        .iter()
+        .filter(|change| matches!(change, ViewUpdate::AddViewVersion { .. }))
+        .count()
 }
 
 impl<'t, 'a, 'v, S: SchemaKind> ViewMetadataBuilder<'t, 'a, 'v, S> {
     // How many recorded changes add a version.
     fn num_added_versions(&self) -> usize
-        ensures { result ≡ additions (changes_of (reading S.Identified S.Numbered.own S.SchemaKind.own) self.now) }
+        ensures { result ≡ additions (changes_of S.SchemaKind self.now.view) }
     {
-        let changes = self.changes.items();
-        let mut count = 0;
-        for change in changes {
-            if adds_version(change) {
-                count += 1;
-            }
-        }
-        count
+        num_adding(self.view.changes.items())
     }
 
     // Whether this version as the current one would lose a dialect, and none may be lost.
     fn would_lose_dialect(&self, current: &ViewVersion) -> bool
-        ensures { result ≡ (not (drop_allowed (look_up drop_key (properties_of self.now.text.now self.now.properties))) && loses_dialect (option_map (version_of self.now.text.now) self.now.previous_view_version) (content_of self.now.text.now current.now)) }
+        ensures { result ≡ (not (drop_allowed (look_up drop_key (properties_of self.now.view.text.now self.now.view.properties))) && loses_dialect (option_map (version_of self.now.view.text.now) self.now.previous_view_version) (content_of self.now.view.text.now current.now)) }
     {
-        if self.properties.drop_allowed(self.text) {
-            return false;
-        }
-        match self.previous_view_version {
-            None => false,
-            Some(previous) => loses_dialect(&previous, current, self.text),
-        }
+        let previous = self.previous_view_version;
+        !self.view.properties.drop_allowed(self.view.text)
+            && previous.is_some_and(|previous| loses_dialect(&previous, current, self.view.text))
     }
 
     // Whether the log has no room for the pending entry.
     fn is_log_over(&self) -> bool
-        ensures { result ≡ over (room self.now.version_log) (with_entry (map entry_of (held_in self.now.version_log)) (option_map entry_of self.now.history_entry)) }
+        ensures { result ≡ over (room self.now.view.version_log) (with_entry (map entry_of (held_in self.now.view.version_log)) (option_map entry_of self.now.history_entry)) }
     {
-        match self.history_entry {
-            None => false,
-            Some(_) => self.version_log.is_full(),
-        }
+        self.history_entry.is_some() && self.view.version_log.is_full()
     }
 
     // Refuses a builder of which no view can be built.
     fn require_buildable(&self) -> Result<(), Fault>
-        ensures { build_after (reading S.Identified S.Numbered.own S.SchemaKind.own) self.now result ≡ build (model_of (reading S.Identified S.Numbered.own S.SchemaKind.own) self.now) }
+        ensures { build_after S.SchemaKind self.now result ≡ build (model_of S.SchemaKind self.now) }
     {
-        let Some(current) = find(self.versions.table.items(), self.current_version_id) else {
-            return Err(Fault {
-                refusal: Refusal::NoCurrentVersion,
-                part: Part::Builder,
-                position: 0,
-            });
-        };
-        if !holds_id(self.schemas.table.items(), current.schema_id) {
-            return Err(Fault {
-                refusal: Refusal::SchemaNotHeld,
-                part: Part::Versions,
-                position: 0,
-            });
+        let view = &self.view;
+        let current = find(view.versions.table.items(), view.current_version_id).ok_or(Fault::new(
+            Refusal::NoCurrentVersion,
+            Part::Builder,
+        ))?;
+        if !holds_id(view.schemas.table.items(), current.schema_id) {
+            return Err(Fault::new(Refusal::SchemaNotHeld, Part::Versions));
         }
         if self.would_lose_dialect(&current) {
-            return Err(Fault {
-                refusal: Refusal::LostDialect,
-                part: Part::Builder,
-                position: 0,
-            });
+            return Err(Fault::new(Refusal::LostDialect, Part::Builder));
         }
         if self.is_log_over() {
-            return Err(Fault {
-                refusal: Refusal::LimitReached,
-                part: Part::Log,
-                position: 0,
-            });
+            return Err(Fault::new(Refusal::LimitReached, Part::Log));
         }
         Ok(())
     }
 
     // Adds the pending entry to the log.
     fn add_history_entry(&mut self)
-        ensures { self.new ≡ with_log (logged self.old.version_log self.old.history_entry) self.old }
+        ensures { self.new ≡ with_log (logged self.old.view.version_log self.old.history_entry) self.old }
     {
         if let Some(entry) = self.history_entry {
-            let _ = self.version_log.push(entry);
+            let _ = self.view.version_log.push(entry);
         }
     }
 
     // Adds the pending entry to the log, expires versions, and cuts the log to those that stay.
     fn finish(&mut self)
-        requires { over (room self.old.version_log) (with_entry (map entry_of (held_in self.old.version_log)) (option_map entry_of self.old.history_entry)) ≡ false }
-        ensures { HoldsBuild (reading S.Identified S.Numbered.own S.SchemaKind.own) self.old self.new }
+        requires { over (room self.old.view.version_log) (with_entry (map entry_of (held_in self.old.view.version_log)) (option_map entry_of self.old.history_entry)) ≡ false }
+        ensures { HoldsBuild S.SchemaKind self.old self.new }
     {
         self.add_history_entry();
-        let size = self.properties.history_size(self.text);
+        let size = self.view.properties.history_size(self.view.text);
         let added = self.num_added_versions();
-        expire_versions(
-            &mut self.versions.table,
-            self.current_version_id,
-            size,
-            added,
-        );
-        let from = update_version_log(self.version_log.items(), self.versions.table.items());
-        self.version_log.keep_from(from);
+        let current = self.view.current_version_id;
+        expire_versions(&mut self.view.versions.table, current, size, added);
+        let view = &self.view;
+        let from = update_version_log(view.version_log.items(), view.versions.table.items());
+        self.view.version_log.keep_from(from);
     }
 
     // Builds the view, or hands the builder back as it was.
-    pub fn build(mut self) -> Result<Built<'t, 'a, 'v, S>, Refused<'t, 'a, 'v, S>>
-        ensures { Builds (reading S.Identified S.Numbered.own S.SchemaKind.own) self.entry result }
+    pub fn build(mut self) -> Result<View<'t, 'a, 'v, S>, Refused<'t, 'a, 'v, S>>
+        ensures { Builds S.SchemaKind self.entry result }
     {
         if let Err(fault) = self.require_buildable() {
             return Err(Refused {
@@ -166,57 +118,6 @@ impl<'t, 'a, 'v, S: SchemaKind> ViewMetadataBuilder<'t, 'a, 'v, S> {
             });
         }
         self.finish();
-        let ViewMetadataBuilder {
-            text,
-            uuid,
-            location,
-            current_version_id,
-            schemas,
-            versions,
-            version_log,
-            properties,
-            changes,
-            opened_versions: _,
-            last_added_schema_id: _,
-            last_added_version_id: _,
-            history_entry: _,
-            previous_view_version: _,
-        } = self;
-        Ok(Built {
-            text,
-            uuid,
-            location,
-            current_version_id,
-            schemas,
-            versions,
-            version_log,
-            properties,
-            changes,
-        })
-    }
-}
-
-impl<'t, 'a, 'v, S: SchemaKind> Built<'t, 'a, 'v, S> {
-    // The metadata, its lists lent from the tables.
-    pub fn metadata(&self) -> ViewMetadata<'_, 'v, S>
-        ensures { Shows self.now result }
-    {
-        ViewMetadata {
-            format_version: 1,
-            uuid: self.uuid,
-            location: self.location,
-            current_version_id: self.current_version_id,
-            schemas: self.schemas.table.items(),
-            versions: self.versions.table.items(),
-            version_log: self.version_log.items(),
-            properties: self.properties.items(),
-        }
-    }
-
-    // The recorded changes, in their order.
-    pub fn changes(&self) -> &[ViewUpdate<'v, S>]
-        ensures { result.now ≡ held_in self.now.changes }
-    {
-        self.changes.items()
+        Ok(self.view)
     }
 }

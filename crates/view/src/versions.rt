@@ -1,18 +1,20 @@
-ghost use Rattle.std.specs.Prelude.{◌≡◌, ℤ, Some, None};
-ghost use Rattle.model.specs.Ids.{resolved_id};
+ghost use Rattle.std.specs.Prelude.{◌≡◌, ℤ, Some, None, Ok};
+ghost use Rattle.model.specs.Bytes.{same_bytes, repeats};
+ghost use Rattle.model.specs.Refusals.{fault, refuse, repeated_dialect, time_too_early, versions_part};
 ghost use Rattle.model.specs.State.{add_version};
-ghost use Rattle.model.specs.Edits.{reuse_or_add_version, after_add_version};
-ghost use Rattle.version.specs.Meaning.{version_in};
-ghost use Rattle.fault.specs.Layers.{version_fault};
-ghost use Rattle.view.specs.Meaning.{reading, model_of, Applied, Did, answers_last_version};
-ghost use Rattle.view.specs.Versions.{meant, admitted_under, recorded_form};
+ghost use Rattle.model.specs.Version.{dialects};
+ghost use Rattle.model.specs.Edits.{reuse_or_add_version, too_early_for};
+ghost use Rattle.version.specs.Meaning.{version_in, content_of};
+ghost use Rattle.view.specs.Meaning.{meant, model_of, Applied, Did, answers_last};
+ghost use Rattle.view.specs.Versions.{admitted_under};
 
-use super::view_metadata_builder::{LAST_ADDED, ViewMetadataBuilder, is_last, resolved};
+use super::view_metadata_builder::{
+    ViewMetadataBuilder, as_recorded, held_same, is_last, next_id, resolved,
+};
 use super::view_update::ViewUpdate;
 use dialect::dialects::require_unique_dialects;
 use dialect::time::too_early;
-use fault::fault::Fault;
-use fault::layers::VersionFault;
+use fault::fault::{Fault, Part, Refusal};
 use register::numbered::{Identified, Numbered};
 use register::register::holds_id;
 use schema::kind::SchemaKind;
@@ -20,9 +22,10 @@ use version::view_version::ViewVersion;
 
 impl<'t, 'a, 'v, S: SchemaKind> ViewMetadataBuilder<'t, 'a, 'v, S> {
     // Reuse of the held version with that id.
-    fn reuse_version(&mut self, version: ViewVersion<'v>, id: i32) -> Result<i32, VersionFault>
-        ensures did { Did (reading S.Identified S.Numbered.own S.SchemaKind.own) version_fault (reuse_or_add_version (model_of (reading S.Identified S.Numbered.own S.SchemaKind.own) self.old) (version_in self.old.text.now version.entry) (Some id)) self.old result self.new }
-        ensures answer { answers_last_version result self.new }
+    // Kept: beside reuse_schema; each sets a field of its own, and one function for both would be handed all that differs.
+    fn reuse_version(&mut self, version: ViewVersion<'v>, id: i32) -> Result<i32, Fault>
+        ensures did { Did S.SchemaKind (reuse_or_add_version (model_of S.SchemaKind self.old) (version_in self.old.view.text.now version.entry) (Some id)) self.old result self.new }
+        ensures answer { answers_last result self.new.last_added_version_id }
     {
         if is_last(self.last_added_version_id, id) {
             return Ok(id);
@@ -34,71 +37,63 @@ impl<'t, 'a, 'v, S: SchemaKind> ViewMetadataBuilder<'t, 'a, 'v, S> {
         Ok(id)
     }
 
-    // The schema id under which the version enters as new, if it may.
-    fn require_new(&self, version: &ViewVersion<'v>) -> Result<i32, VersionFault>
-        ensures { meant version_fault result ≡ admitted_under (model_of (reading S.Identified S.Numbered.own S.SchemaKind.own) self.now) (version_in self.now.text.now version.now) }
+    // Refuses a new version that repeats a dialect or comes too early.
+    pub(crate) fn require_fresh(&self, version: &ViewVersion<'v>) -> Result<(), Fault>
+        ensures { meant result ≡ refuse (repeats same_bytes (dialects (content_of self.now.view.text.now version.now))) (fault repeated_dialect versions_part) (refuse (too_early_for version.now.timestamp_ms (model_of S.SchemaKind self.now).metadata.version_log) (fault time_too_early versions_part) (Ok tt)) }
     {
-        let Some(schema_id) = resolved(version.schema_id, self.last_added_schema_id) else {
-            return Err(VersionFault::NoSchemaAdded);
-        };
-        if !holds_id(self.schemas.table.items(), schema_id) {
-            return Err(VersionFault::SchemaNotHeld);
+        if require_unique_dialects(version, self.view.text).is_err() {
+            return Err(Fault::new(Refusal::RepeatedDialect, Part::Versions));
         }
-        if require_unique_dialects(version, self.text).is_err() {
-            return Err(VersionFault::RepeatedDialect);
+        if too_early(version.timestamp_ms, self.view.version_log.items()) {
+            return Err(Fault::new(Refusal::TimeTooEarly, Part::Versions));
         }
-        if too_early(version.timestamp_ms, self.version_log.items()) {
-            return Err(VersionFault::TimeTooEarly);
+        Ok(())
+    }
+
+    // The schema id under which the version enters as new, if it may.
+    fn require_new(&self, version: &ViewVersion<'v>) -> Result<i32, Fault>
+        ensures { meant result ≡ admitted_under (model_of S.SchemaKind self.now) (version_in self.now.view.text.now version.now) }
+    {
+        let schema_id = resolved(version.schema_id, self.last_added_schema_id).ok_or(Fault::new(
+            Refusal::NoSchemaAdded,
+            Part::Versions,
+        ))?;
+        if !holds_id(self.view.schemas.table.items(), schema_id) {
+            return Err(Fault::new(Refusal::SchemaNotHeld, Part::Versions));
         }
+        self.require_fresh(version)?;
         Ok(schema_id)
     }
 
     // A new version, under the next id.
-    fn enter_version(&mut self, version: ViewVersion<'v>) -> Result<i32, VersionFault>
-        ensures did { Did (reading S.Identified S.Numbered.own S.SchemaKind.own) version_fault (reuse_or_add_version (model_of (reading S.Identified S.Numbered.own S.SchemaKind.own) self.old) (version_in self.old.text.now version.entry) None) self.old result self.new }
-        ensures answer { answers_last_version result self.new }
+    // Kept: beside enter_schema, which asks for no schema and records the greatest field number.
+    fn enter_version(&mut self, version: ViewVersion<'v>) -> Result<i32, Fault>
+        ensures did { Did S.SchemaKind (reuse_or_add_version (model_of S.SchemaKind self.old) (version_in self.old.view.text.now version.entry) None) self.old result self.new }
+        ensures answer { answers_last result self.new.last_added_version_id }
     {
         let schema_id = self.require_new(&version)?;
-        let id = self.versions.next_id()?;
+        let id = next_id(&self.view.versions, Part::Versions)?;
         let stored = version.with_schema_id(schema_id).with_id(id);
-        let view_version = as_recorded(stored, self.last_added_schema_id);
+        let view_version = stored.with_schema_id(as_recorded(schema_id, self.last_added_schema_id));
         self.record(ViewUpdate::AddViewVersion { view_version })?;
-        let _ = self.versions.push(stored);
+        let _ = self.view.versions.push(stored);
         self.last_added_version_id = Some(id);
         Ok(id)
     }
 
-    // Reuse of the held version with the same content, or a new one.
-    pub(crate) fn add_version_internal(
-        &mut self,
-        version: ViewVersion<'v>,
-    ) -> Result<i32, VersionFault>
-        ensures did { Did (reading S.Identified S.Numbered.own S.SchemaKind.own) version_fault (after_add_version (model_of (reading S.Identified S.Numbered.own S.SchemaKind.own) self.old) (version_in self.old.text.now version.entry)) self.old result self.new }
-        ensures answer { answers_last_version result self.new }
+    // Adds a version, or reuses the held one with the same content; answers its id.
+    pub fn add_version(&mut self, version: ViewVersion<'v>) -> Result<i32, Fault>
+        ensures did { (clock : ℤ) → Applied S.SchemaKind (add_version (version_in self.old.view.text.now version.entry)) clock self.old result self.new }
+        ensures answer { answers_last result self.new.last_added_version_id }
     {
-        version.check(self.text)?;
-        match self.versions.lowest_same(&version, self.text) {
+        match held_same(
+            &self.view.versions,
+            &version,
+            self.view.text,
+            Part::Versions,
+        )? {
             Some(id) => self.reuse_version(version, id),
             None => self.enter_version(version),
         }
-    }
-
-    // Adds a version, or reuses the held one with the same content; answers its id.
-    pub fn add_version(&mut self, version: ViewVersion<'v>) -> Result<i32, Fault>
-        ensures did { (clock : ℤ) → Applied (reading S.Identified S.Numbered.own S.SchemaKind.own) (add_version (version_in self.old.text.now version.entry)) clock self.old result self.new }
-        ensures answer { answers_last_version result self.new }
-    {
-        Ok(self.add_version_internal(version)?)
-    }
-}
-
-// The version as it is recorded: under schema -1 where its schema is the last added.
-fn as_recorded<'v>(version: ViewVersion<'v>, last: Option<i32>) -> ViewVersion<'v>
-    ensures { result ≡ recorded_form last version.entry }
-{
-    if is_last(last, version.schema_id) {
-        version.with_schema_id(LAST_ADDED)
-    } else {
-        version
     }
 }

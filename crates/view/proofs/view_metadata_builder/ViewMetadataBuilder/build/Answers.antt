@@ -1,4 +1,5 @@
-use Rattle.view.specs.Meaning.{reading, model_of}
+use Rattle.view.specs.Meaning.{model_of}
+use Rattle.view.proofs.Readings.{reading}
 use Rattle.view.proofs.Builds.{built_has_room}
 use Rattle.view.proofs.view_metadata_builder.ViewMetadataBuilder.build.Goals as goal
 

@@ -15,6 +15,6 @@ returns g c =
     let from = c.update_version_log-from.result in
     finishes g.S.Identified g.S.Numbered g.S.SchemaKind c.args.self.now m c.add_history_entry.ensures size added c.history_size-size.ensures c.num_added_versions-added.ensures
     c.expire_versions.new.table
-    (c.expire_versions.ensures ∙ ap (λ i. holding m.versions.table (unexpired_by (λ v. v.version_id) (held_in m.versions.table) i (how_many_to_keep size added) added)) (to_z-of_z w32 m.current_version_id (search rules)))
+    (c.expire_versions.ensures ∙ ap (λ i. holding m.view.versions.table (unexpired_by (λ v. v.version_id) (held_in m.view.versions.table) i (how_many_to_keep size added) added)) (to_z-of_z w32 m.view.current_version_id (search rules)))
     c.requires c.keep_from.new.self from c.keep_from.ensures
     (ap (λ es. map entry_of (drop from es)) (sym c.items.ensures) ∙ (c.update_version_log-from.ensures.entries ∙ (λ j. kept_log (map (λ v. v.version_id) (c.items-2.ensures j)) (map entry_of (c.items.ensures j)))))

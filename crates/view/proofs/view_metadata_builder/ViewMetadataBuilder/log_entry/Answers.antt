@@ -1,25 +1,18 @@
-use Rattle.std.proofs.Common.{Some, None, sym, ◌∙◌, w32, w64, rules}
+use Rattle.std.proofs.Common.{◌≡◌, MatchOption, sym, ◌∙◌, w32, w64, rules}
 use Rattle.std.proofs.lemmas.List.{take_rest}
 use Rattle.std.proofs.lemmas.Int.{to_z-of_z}
 use Rattle.model.specs.Ids.{find}
-use Rattle.view.specs.Meaning.{reading}
-use Rattle.view.proofs.CurrentIds.{entry_found}
+use Rattle.view.proofs.Readings.{reading}
+use Rattle.view.proofs.CurrentIds.{entry_found, entry_timed}
 use Rattle.view.proofs.view_metadata_builder.ViewMetadataBuilder.log_entry.Goals as goal
 
-pub returns-in-Some : goal.returns-in-Some
-returns-in-Some g c =
+pub returns : goal.returns
+returns g c =
     let i = to_z-of_z w32 c.args.id c.ranges.id in
-    let t = to_z-of_z w64 c.in-Some.version.timestamp_ms (search rules) in
+    let t = to_z-of_z w64 c.map_or-timestamp_ms.result (search rules) in
+    let timed : MatchOption c.find.result (c.map_or-timestamp_ms.result ≡ c.args.clock) (λ v. c.map_or-timestamp_ms.result ≡ v.timestamp_ms) = search rules in
     (λ j. record { id = i j; time = t j })
-    ∙ sym (entry_found (reading g.S.Identified g.S.Numbered g.S.SchemaKind) c.args.self.now c.args.clock c.args.id (Some c.in-Some.version)
+    ∙ (entry_timed c.args.self.now.view.text.now c.args.id c.args.clock c.map_or-timestamp_ms.result c.find.result timed
+    ∙ sym (entry_found (reading g.S.Identified g.S.Numbered g.S.SchemaKind) c.args.self.now c.args.clock c.args.id c.find.result
     c.items-held.result.now c.min-start.result c.items-held.ensures c.min-start.ensures
-    (c.in-Some.ensures ∙ (λ j. find (λ v. v.version_id) (i j) (take_rest c.items-held.result.now c.min-start.result j))))
-
-pub returns-in-None : goal.returns-in-None
-returns-in-None g c =
-    let i = to_z-of_z w32 c.args.id c.ranges.id in
-    let t = to_z-of_z w64 c.args.clock c.ranges.clock in
-    (λ j. record { id = i j; time = t j })
-    ∙ sym (entry_found (reading g.S.Identified g.S.Numbered g.S.SchemaKind) c.args.self.now c.args.clock c.args.id None
-    c.items-held.result.now c.min-start.result c.items-held.ensures c.min-start.ensures
-    (c.in-None.ensures ∙ (λ j. find (λ v. v.version_id) (i j) (take_rest c.items-held.result.now c.min-start.result j))))
+    (c.find.ensures ∙ (λ j. find (λ v. v.version_id) (i j) (take_rest c.items-held.result.now c.min-start.result j)))))

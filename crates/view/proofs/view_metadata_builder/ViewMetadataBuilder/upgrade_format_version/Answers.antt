@@ -1,4 +1,4 @@
-use Rattle.view.specs.Meaning.{reading}
+use Rattle.view.proofs.Readings.{reading}
 use Rattle.view.proofs.Starts.{format_upgraded}
 use Rattle.view.proofs.view_metadata_builder.ViewMetadataBuilder.upgrade_format_version.Goals as goal
 

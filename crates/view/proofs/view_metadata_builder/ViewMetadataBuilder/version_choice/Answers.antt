@@ -1,60 +1,49 @@
-use Rattle.std.proofs.Common.{true, false, not, map, Some, None, Ok, Err, sym, refl, ap, ◌∙◌, w32, w64, rules}
+use Rattle.std.proofs.Common.{true, not, Ok, Err, sym, refl, ap, ◌∙◌, w32, rules}
 use Rattle.std.proofs.lemmas.Int.{to_z-of_z}
 use Rattle.model.specs.Ids.{is_id}
-use Rattle.model.specs.Edits.{too_early_for}
-use Rattle.version.specs.Meaning.{entry_of}
-use Rattle.fault.specs.Layers.{version_fault}
-use Rattle.fault.specs.declared.layers.VersionFault.TheVariants.{Register}
-use Rattle.view.specs.Meaning.{reading}
-use Rattle.view.proofs.Outcomes.{err_means}
-use Rattle.view.proofs.Chosen.{meant_by, version_chosen, version_new}
+use Rattle.fault.specs.Meaning.{fault_of}
+use Rattle.version.specs.Meaning.{version_in}
+use Rattle.view.specs.Meaning.{model_of}
+use Rattle.view.specs.Plans.{version_given}
+use Rattle.view.proofs.Readings.{reading}
+use Rattle.view.proofs.Outcomes.{meant_by}
+use Rattle.view.proofs.NewVersions.{version_held, version_new}
 use Rattle.view.proofs.view_metadata_builder.ViewMetadataBuilder.version_choice.Goals as goal
 
 pub returns-in-Some : goal.returns-in-Some
 returns-in-Some g c =
+    let G = reading g.S.Identified g.S.Numbered g.S.SchemaKind in
     let b = c.args.self.now in
+    let v = c.args.version.now in
     let z = to_z-of_z w32 c.in-Some.id (search rules) in
     (λ h. Ok (z h, not ((c.is_last.ensures ∙ ap (is_id b.last_added_version_id) z) h)))
-    ∙ version_chosen (reading g.S.Identified g.S.Numbered g.S.SchemaKind) b c.args.version.now (Some c.in-Some.id) c.in_ok-check.ensures (sym c.in-Some.is ∙ c.lowest_same.ensures)
+    ∙ (ap (version_given (model_of G b) (version_in b.view.text.now v)) (sym c.in-Some.is) ∙ version_held G b v (Ok c.in_ok-id.field-0) (version_given (model_of G b) (version_in b.view.text.now v)) c.in_ok-id.ensures)
 
-pub returns-then-is_err : goal.returns-then-is_err
-returns-then-is_err g c =
+pub returns-in_err-require_fresh : goal.returns-in_err-require_fresh
+returns-in_err-require_fresh g c =
+    let G = reading g.S.Identified g.S.Numbered g.S.SchemaKind in
     let b = c.args.self.now in
     let v = c.args.version.now in
-    (version_new (reading g.S.Identified g.S.Numbered g.S.SchemaKind) b v true _ _
-    (sym c.if-is_err.true ∙ (c.is_err.ensures.value ∙ c.require_unique_dialects.ensures))
-    refl
-    refl
-    ∙ version_chosen (reading g.S.Identified g.S.Numbered g.S.SchemaKind) b v None c.in_ok-check.ensures (sym c.in_default.is ∙ c.lowest_same.ensures))
-
-pub returns-then-too_early : goal.returns-then-too_early
-returns-then-too_early g c =
-    let b = c.args.self.now in
-    let v = c.args.version.now in
-    (version_new (reading g.S.Identified g.S.Numbered g.S.SchemaKind) b v false true _
-    (sym c.if-is_err.false ∙ (c.is_err.ensures.value ∙ c.require_unique_dialects.ensures))
-    (sym c.if-too_early.true ∙ (c.too_early.ensures ∙ (λ h. too_early_for (to_z-of_z w64 v.timestamp_ms (search rules) h) (map entry_of (c.items.ensures h)))))
-    refl
-    ∙ version_chosen (reading g.S.Identified g.S.Numbered g.S.SchemaKind) b v None c.in_ok-check.ensures (sym c.in_default.is ∙ c.lowest_same.ensures))
+    let f = c.in_err-require_fresh.field-0.0 in
+    meant_by _ f c.from_residual-in_err-require_fresh.ensures.1
+    ∙ (version_new G b v (Err (fault_of f)) _ c.in_err-require_fresh.ensures refl
+    ∙ (ap (version_given (model_of G b) (version_in b.view.text.now v)) (sym c.in_default.is) ∙ version_held G b v (Ok c.in_ok-id.field-0) (version_given (model_of G b) (version_in b.view.text.now v)) c.in_ok-id.ensures))
 
 pub returns-in_err-next_id : goal.returns-in_err-next_id
 returns-in_err-next_id g c =
+    let G = reading g.S.Identified g.S.Numbered g.S.SchemaKind in
     let b = c.args.self.now in
     let v = c.args.version.now in
-    meant_by version_fault _ _ (err_means version_fault _ (Register c.in_err-next_id.field-0.0) c.from_residual-in_err-next_id.ensures.1)
-    ∙ (version_new (reading g.S.Identified g.S.Numbered g.S.SchemaKind) b v false false (Err c.in_err-next_id.field-0.0)
-    (sym c.if-is_err.false ∙ (c.is_err.ensures.value ∙ c.require_unique_dialects.ensures))
-    (sym c.if-too_early.false ∙ (c.too_early.ensures ∙ (λ h. too_early_for (to_z-of_z w64 v.timestamp_ms (search rules) h) (map entry_of (c.items.ensures h)))))
-    (sym c.in_err-next_id.was ∙ c.next_id.ensures)
-    ∙ version_chosen (reading g.S.Identified g.S.Numbered g.S.SchemaKind) b v None c.in_ok-check.ensures (sym c.in_default.is ∙ c.lowest_same.ensures))
+    let f = c.in_err-next_id.field-0.0 in
+    meant_by _ f c.from_residual-in_err-next_id.ensures.1
+    ∙ (version_new G b v (Ok tt) (Err (fault_of f)) c.in_ok-require_fresh.ensures c.in_err-next_id.ensures
+    ∙ (ap (version_given (model_of G b) (version_in b.view.text.now v)) (sym c.in_default.is) ∙ version_held G b v (Ok c.in_ok-id.field-0) (version_given (model_of G b) (version_in b.view.text.now v)) c.in_ok-id.ensures))
 
 pub returns : goal.returns
 returns g c =
+    let G = reading g.S.Identified g.S.Numbered g.S.SchemaKind in
     let b = c.args.self.now in
     let v = c.args.version.now in
     ap (λ i. Ok (i, true)) (to_z-of_z w32 c.in_ok-next_id.field-0 (search rules))
-    ∙ (version_new (reading g.S.Identified g.S.Numbered g.S.SchemaKind) b v false false (Ok c.in_ok-next_id.field-0)
-    (sym c.if-is_err.false ∙ (c.is_err.ensures.value ∙ c.require_unique_dialects.ensures))
-    (sym c.if-too_early.false ∙ (c.too_early.ensures ∙ (λ h. too_early_for (to_z-of_z w64 v.timestamp_ms (search rules) h) (map entry_of (c.items.ensures h)))))
-    (sym c.in_ok-next_id.was ∙ c.next_id.ensures)
-    ∙ version_chosen (reading g.S.Identified g.S.Numbered g.S.SchemaKind) b v None c.in_ok-check.ensures (sym c.in_default.is ∙ c.lowest_same.ensures))
+    ∙ (version_new G b v (Ok tt) (Ok c.in_ok-next_id.field-0) c.in_ok-require_fresh.ensures c.in_ok-next_id.ensures
+    ∙ (ap (version_given (model_of G b) (version_in b.view.text.now v)) (sym c.in_default.is) ∙ version_held G b v (Ok c.in_ok-id.field-0) (version_given (model_of G b) (version_in b.view.text.now v)) c.in_ok-id.ensures))
