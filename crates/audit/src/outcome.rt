@@ -33,12 +33,6 @@ pub fn print_outcome(
     write!(printer, "# line {number}: {statement}: ")?;
     match outcome {
         Ok(done) => writeln!(printer, "{done}"),
-        Err(fault) => writeln!(
-            printer,
-            "refused {} {} {}",
-            fault.refusal.number(),
-            fault.part.letter(),
-            fault.position
-        ),
+        Err(fault) => writeln!(printer, "refused {fault}"),
     }
 }

@@ -175,7 +175,7 @@ fn print_unread(script: &Script, printer: &mut Printer<'_>) -> Result<(), AllocE
             printer,
             "# line {}: expected {}",
             unread.line,
-            unread.expected.words()
+            unread.expected
         ),
     }
 }

@@ -17,15 +17,15 @@ pub enum Expected {
     LineEnd,
 }
 
-impl Expected {
-    ghost use Rattle.std.specs.Prelude.{◌≡◌};
+// In words, after "expected".
+impl fmt::Display for Expected {
+    ghost use Rattle.std.specs.Prelude.{Some};
     ghost use Rattle.cursor.specs.Wanted.{wanted_words};
 
-    // In words, after "expected".
-    pub fn words(&self) -> &'static str
-        ensures { result.now ≡ wanted_words self.now }
-    {
-        match self {
+    ghost output = { λ e. Some (wanted_words e) };
+
+    fn fmt<W: fmt::Write>(&self, f: &mut fmt::Formatter<W>) -> fmt::Result {
+        f.write_str(match self {
             Expected::Statement => "a statement",
             Expected::Word(word) => word,
             Expected::Text => "a text in quotes",
@@ -36,18 +36,7 @@ impl Expected {
             Expected::Uuid => "a uuid of 32 hexadecimal digits",
             Expected::ListEnd => "the end of the list",
             Expected::LineEnd => "the end of the line",
-        }
-    }
-}
-
-impl fmt::Display for Expected {
-    ghost use Rattle.std.specs.Prelude.{Some};
-    ghost use Rattle.cursor.specs.Wanted.{wanted_words};
-
-    ghost output = { λ e. Some (wanted_words e) };
-
-    fn fmt<W: fmt::Write>(&self, f: &mut fmt::Formatter<W>) -> fmt::Result {
-        f.write_str(self.words())
+        })
     }
 }
 

@@ -1,10 +1,8 @@
 -- What a register of numbered things answers, and what entering a thing makes of it. Assumes nothing.
-use Rattle.std.specs.Prelude.{ℕ, cond, List, map, ℤ, Some, None, Ok, Err, Option, Result}
+use Rattle.std.specs.Prelude.{ℕ, Bool, cond, List, map, ℤ, Some, None, Ok, Err, Option, Result}
 use Rattle.model.specs.Ids.{lowest_id_where, next_id, ids_used_up}
 use Rattle.register.specs.declared.fault.RegisterFault.{RegisterFault}
 use Rattle.register.specs.declared.fault.RegisterFault.TheVariants.{NoIdLeft, Full}
-use Rattle.register.specs.declared.numbered.Identified as identified
-use Rattle.register.specs.declared.numbered.Numbered as numbered
 use Rattle.register.specs.declared.register.Register.{Register}
 use Rattle.register.specs.declared.table.Table.{Table}
 use Rattle.register.specs.Tables.{held_in, is_full, after_push}
@@ -13,14 +11,26 @@ use Rattle.register.specs.Tables.{held_in, is_full, after_push}
 abbrev pub pushed : {X : Type 0} → X → Register X → Register X
 pushed x r = record { table = after_push r.table x }
 
-module _ {X : Type 0} (i : identified.Ghosts X) (n : numbered.Ghosts X) where
+-- what a kind of numbered things states: the id of a thing and its copy under another, the first id, and over a text block its content and verdict; and contents and their test
+abbrev pub Numbering : Type 0 → Type 1
+Numbering X = record {
+  named : X → ℤ;
+  initial : ℤ;
+  Content : Type 0;
+  content : List ℕ → X → Content;
+  alike : Content → Content → Bool;
+  verdict : List ℕ → X → Option ℕ;
+  copied : ℤ → X → X;
+}
+
+module _ {X : Type 0} (n : Numbering X) where
   -- the lowest id of those held that have the content of x
   abbrev pub same_id : List ℕ → X → List X → Option ℤ
-  same_id block x held = lowest_id_where i.named (λ t. n.alike (n.content block t) (n.content block x)) held
+  same_id block x held = lowest_id_where n.named (λ t. n.alike (n.content block t) (n.content block x)) held
 
   -- the ids held
   abbrev pub held_ids : Table X → List ℤ
-  held_ids t = map i.named (held_in t)
+  held_ids t = map n.named (held_in t)
 
   -- the id that a new thing gets: none where the highest possible is in use, or no slot is free
   abbrev pub new_id : Table X → Result ℤ RegisterFault

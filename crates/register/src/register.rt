@@ -29,7 +29,7 @@ pub fn holds_id<T: Identified>(items: &[T], id: i32) -> bool
 
 // The lowest id of those that are the same as `thing`.
 fn lowest_like<T: Numbered>(items: &[T], thing: &T, block: &[u8]) -> Option<i32>
-    ensures { result ≡ same_id T.Identified T.Numbered.own block.now thing.now items.now }
+    ensures { result ≡ same_id T.Numbered block.now thing.now items.now }
 {
     let ids = items
         .iter()
@@ -55,14 +55,14 @@ fn id_after(first: i32, highest: Option<i32>) -> Option<i32>
 impl<'a, T: Numbered> Register<'a, T> {
     // The lowest id held with the same content as `thing`.
     pub fn lowest_same(&self, thing: &T, block: &[u8]) -> Option<i32>
-        ensures { result ≡ same_id T.Identified T.Numbered.own block.now thing.now (held_in self.now.table) }
+        ensures { result ≡ same_id T.Numbered block.now thing.now (held_in self.now.table) }
     {
         lowest_like(self.table.items(), thing, block)
     }
 
     // The id that a new thing gets.
     pub fn next_id(&self) -> Result<i32, RegisterFault>
-        ensures { result ≡ new_id T.Identified T.Numbered.own self.now.table }
+        ensures { result ≡ new_id T.Numbered self.now.table }
     {
         let highest = highest_of(self.table.items());
         let id = id_after(T::initial_id(), highest).ok_or(RegisterFault::NoIdLeft)?;
@@ -82,7 +82,7 @@ impl<'a, T: Numbered> Register<'a, T> {
 
     // The lowest id held with the same content, or else that of a copy under a new id, which it then holds.
     pub fn enter(&mut self, thing: T, block: &[u8]) -> Result<i32, RegisterFault>
-        ensures { (result, self.new) ≡ entered T.Identified T.Numbered.own block.now thing self.old }
+        ensures { (result, self.new) ≡ entered T.Numbered block.now thing self.old }
     {
         if let Some(id) = self.lowest_same(&thing, block) {
             return Ok(id);

@@ -116,7 +116,7 @@ pub(crate) fn held_same<T: Numbered>(
     block: &[u8],
     part: Part,
 ) -> Result<Option<i32>, Fault>
-    ensures { meant result ≡ refuse_with (part_of part) (T.verdict block.now thing.now) (Ok (same_id T.Identified T.Numbered.own block.now thing.now (held_in register.now.table))) }
+    ensures { meant result ≡ refuse_with (part_of part) (T.verdict block.now thing.now) (Ok (same_id T.Numbered block.now thing.now (held_in register.now.table))) }
 {
     thing
         .check(block)
@@ -126,7 +126,7 @@ pub(crate) fn held_same<T: Numbered>(
 
 // The id that a new thing gets.
 pub(crate) fn next_id<T: Numbered>(register: &Register<'_, T>, part: Part) -> Result<i32, Fault>
-    ensures { meant result ≡ given (part_of part) (new_id T.Identified T.Numbered.own register.now.table) }
+    ensures { meant result ≡ given (part_of part) (new_id T.Numbered register.now.table) }
 {
     register
         .next_id()
