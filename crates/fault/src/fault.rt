@@ -25,6 +25,7 @@ pub enum Refusal {
 }
 
 impl Refusal {
+    // Kept: a method, since `refusal.number()` says which number it is, where `u8::from` would not.
     pub fn number(self) -> u8
         ensures { result ≡ number_of self }
     {
@@ -44,6 +45,7 @@ pub enum Part {
 }
 
 impl Part {
+    // Kept: a method, as `Refusal::number`.
     pub fn letter(self) -> char
         ensures { result ≡ letter (part_of self) }
     {

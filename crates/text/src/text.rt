@@ -9,6 +9,7 @@ pub const MAX_TEXT_BYTES: usize = 4096;
 pub const MAX_BLOCK_BYTES: usize = 65536;
 
 // A text: so many bytes from a place of the text block.
+// Kept: a place, and no slice: records are `Copy` and name one block that is lent to each call, and a text that reaches outside it is refused and not ruled out.
 #[derive(Clone, Copy)]
 pub struct Text {
     pub place: usize,
