@@ -174,8 +174,7 @@ fn print_unread(script: &Script, printer: &mut Printer<'_>) -> Result<(), AllocE
         Some(unread) => writeln!(
             printer,
             "# line {}: expected {}",
-            unread.line,
-            unread.expected
+            unread.line, unread.expected
         ),
     }
 }
