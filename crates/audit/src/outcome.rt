@@ -24,6 +24,7 @@ impl fmt::Display for Done {
 }
 
 // # line N: STATEMENT: what it did, or refused NUMBER LETTER POSITION
+// Kept: the printer is handed to each function of this crate; a struct around it would hold nothing else.
 pub fn print_outcome(
     printer: &mut Printer<'_>,
     number: usize,

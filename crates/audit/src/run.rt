@@ -139,12 +139,22 @@ fn run_begun<'s>(
     };
     match builder.build() {
         Ok(built) => {
-            print_outcome(printer, build.number, "build", Ok(Done::Accepted))?;
+            print_outcome(
+                printer,
+                build.number,
+                build.statement.name(),
+                Ok(Done::Accepted),
+            )?;
             skip_rest(after, printer)?;
             print_built(printer, &built)
         }
         Err(refused) => {
-            print_outcome(printer, build.number, "build", Err(refused.fault))?;
+            print_outcome(
+                printer,
+                build.number,
+                build.statement.name(),
+                Err(refused.fault),
+            )?;
             skip_rest(after, printer)
         }
     }
@@ -160,10 +170,15 @@ fn run_script(script: &Script, printer: &mut Printer<'_>) -> Result<(), AllocErr
     };
     match begin(format, uuid, script.block.as_slice()) {
         Ok(beginning) => {
-            print_outcome(printer, first.number, "begin", Ok(Done::Accepted))?;
+            print_outcome(
+                printer,
+                first.number,
+                first.statement.name(),
+                Ok(Done::Accepted),
+            )?;
             run_begun(beginning, rest, printer)
         }
-        Err(fault) => print_outcome(printer, first.number, "begin", Err(fault)),
+        Err(fault) => print_outcome(printer, first.number, first.statement.name(), Err(fault)),
     }
 }
 

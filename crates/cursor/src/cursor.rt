@@ -52,6 +52,7 @@ fn past_blanks(line: &[u8]) -> &[u8]
 }
 
 // The byte that a pair of hexadecimal digits writes.
+// Kept: a Result with nothing to say, since the `try_map` of an array takes no Option.
 fn pair_byte(pair: [u8; 2]) -> Result<u8, ()>
     ensures { result ≡ ok_or (pair_byte pair) tt }
 {

@@ -1,9 +1,8 @@
 -- What passes a test, moved to the front of a list in place. Assumes nothing.
-use Rattle.std.proofs.Common.{◌≡◌, ℕ, ◌+◌, ◌-◌, ◌<◌, ◌≤◌, min, Bool, true, false, cond, List, [], ◌∷◌, ◌++◌, length, get_or, take, drop, set, filter, sym, refl, ap, ◌∙◌, ap₂, inl, inr, append_assoc, append-nil, arith}
+use Rattle.std.proofs.Common.{◌≡◌, ℕ, ◌+◌, ◌-◌, ◌<◌, ◌≤◌, Bool, true, false, cond, List, [], ◌∷◌, ◌++◌, length, get_or, take, drop, set, filter, sym, refl, ap, ◌∙◌, ap₂, append_assoc, append-nil, arith}
 use Rattle.std.specs.List.{AllByRecursion}
-use Rattle.std.proofs.lemmas.List.{length_push, get_or-append_right, get_or-drop, drop_more, set_at, take_all}
+use Rattle.std.proofs.lemmas.List.{length_push, get_or-append_right, get_or-drop, drop_more, set_at}
 use Rattle.std.proofs.lemmas.List.Elements.{filter_more}
-use Rattle.std.proofs.lemmas.Bool.{cases_lt}
 use Rattle.expiry.specs.Expiry.{over_front}
 
 -- a turn of the loop at i: ys are the slots as they stand, y is read from them
@@ -38,14 +37,6 @@ module _ {A : Type 0} (q : A → Bool) (xs ys : List A) (i k : ℕ) (y : A) (h :
 
   pub front_no : q y ≡ false → ys ≡ over_front (filter q (take (i + 1) xs)) xs
   front_no t = inv ∙ ap (λ l. over_front l xs) (kept_no_more t)
-
--- as many as there are
-pub take_up_to : {A : Type 0} (n i : ℕ) (xs : List A) → i ≡ min n (length xs) → take i xs ≡ take n xs
-take_up_to n i xs e =
-    elim (cases_lt n (length xs)) [
-      | inl h ↦ ap (λ j. take j xs) (omega arith)
-      | inr h ↦ take_all i xs (omega arith) ∙ sym (take_all n xs h)
-    ]
 
 -- tests that agree keep the same
 pub kept_by_same : {A : Type 0} (p q : A → Bool) (xs : List A) → AllByRecursion (λ x. p x ≡ q x) xs → filter p xs ≡ filter q xs

@@ -1,13 +1,12 @@
 -- What stays by the ids is what the rule on versions says. Assumes nothing.
-use Rattle.std.proofs.Common.{◌≡◌, ℕ, ◌-◌, Bool, true, false, cond, not, ◌||◌, eqb, ltb, List, [], ◌∷◌, map, length, drop, ℤ, filter, sym, refl, ap, ◌∙◌, ap₂, arith}
+use Rattle.std.proofs.Common.{◌≡◌, ℕ, ◌-◌, Bool, true, false, cond, ◌||◌, eqb, ltb, List, [], ◌∷◌, map, length, drop, ℤ, filter, sym, refl, ap, ◌∙◌, ap₂}
 use lib.Signed.{lt_z}
 use Rattle.std.specs.List.{AllByRecursion}
-use Rattle.std.proofs.lemmas.List.{length-map, length-append, length-drop, take_at, length-take}
-use Rattle.std.proofs.lemmas.List.Filters.{length-filter_both}
+use Rattle.std.proofs.lemmas.List.{length-map, take_at}
 use Rattle.model.specs.Version.{Version, version_ids}
 use Rattle.model.specs.Ids.{same_number}
 use Rattle.model.specs.Build.{higher, places, stays, unexpired}
-use Rattle.register.specs.Tables.{held_in, room}
+use Rattle.register.specs.Tables.{held_in}
 use Rattle.register.specs.declared.table.Table.{Table}
 use Rattle.expiry.specs.Expiry.{higher_than, places_for, id_stays, unexpired_by, holding}
 use Rattle.expiry.proofs.Fronts.{kept_by_same}
@@ -60,13 +59,6 @@ module _ {X : Type 0} (id_of : X → ℤ) (version_of : X → Version) (is : (x 
 -- the table holds just what it is to hold
 pub held_in_holding : {X : Type 0} (t : Table X) (xs : List X) → held_in (holding t xs) ≡ xs
 held_in_holding t xs = take_at xs (drop (length xs) t.slots.now) (length xs) refl
-
--- its room is as it was
-pub room_holding : {X : Type 0} (t : Table X) (p : X → Bool) → room (holding t (filter p (held_in t))) ≡ room t
-room_holding t p =
-    let k = filter p (held_in t) in
-    length-append k (drop (length k) t.slots.now)
-    ∙ omega (arith, length-drop (length k) t.slots.now, length-filter_both p (λ x. not (p x)) (λ _. refl) (held_in t), length-take t.held t.slots.now)
 
 -- the versions that a table means, after expiry
 pub expired_versions : {X : Type 0} (id_of : X → ℤ) (version_of : X → Version) → ((x : X) → (version_of x).id ≡ id_of x) → (t : Table X) (current : ℤ) (n added : ℕ) →

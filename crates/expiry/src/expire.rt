@@ -60,6 +60,7 @@ fn lowest_placed<T: Identified>(items: &[T], places: u64) -> Option<i32>
 }
 
 // The versions that do not expire.
+// Kept: three numbers from three places of a builder; a struct of them would be made for one call and taken apart in the next.
 pub fn versions_to_keep<T: Identified>(items: &[T], current: i32, size: u64, added: usize) -> Kept
     ensures { KeepsWhatStays T.Identified.named result items.now current (how_many_to_keep size added) added }
 {

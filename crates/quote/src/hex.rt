@@ -18,6 +18,7 @@ pub fn hex_byte(high: u8, low: u8) -> Option<u8>
 }
 
 // The hexadecimal digit of a number below 16, in small letters.
+// Kept: `char::from_digit` answers an Option of a char, which would be taken apart and cast.
 fn hex_digit(n: u8) -> u8
     requires { n < 16 }
     ensures { result ≡ hex_digit n }

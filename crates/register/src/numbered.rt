@@ -41,17 +41,21 @@ pub trait Numbered: Identified {
 
     fn check(&self, block: &[u8]) -> Result<(), RecordFault>
         ensures { refused_with result ≡ verdict block.now self.now };
+}
 
+// The laws of numbered things.
+// Kept: apart from `Numbered`, since a register asks them of none of its things.
+pub trait Lawful: Numbered {
     // the test says yes exactly when the contents are equal
-    ghost decides: { (m n : Content) → Decides (alike m n) (m ≡ n) };
+    ghost decides: { (m n : Self.Content) → Decides (Self.alike m n) (m ≡ n) };
     // a copy under its own id is the thing itself, and a copy of a copy is a copy
-    ghost own_copy: { (x : Self) → copied (Self.named x) x ≡ x };
+    ghost own: { (x : Self) → Self.copied (Self.named x) x ≡ x };
 
-    ghost again: { (i j : ℤ) (x : Self) → copied i (copied j x) ≡ copied i x };
+    ghost again: { (i j : ℤ) (x : Self) → Self.copied i (Self.copied j x) ≡ Self.copied i x };
     // a copy has the given id, an equal content, and passes the same tests
-    ghost renamed: { (i : ℤ) (x : Self) → Self.named (copied i x) ≡ i };
+    ghost renamed: { (i : ℤ) (x : Self) → Self.named (Self.copied i x) ≡ i };
 
-    ghost contents: { (b : List ℕ) (i : ℤ) (x : Self) → content b (copied i x) ≡ content b x };
+    ghost contents: { (b : List ℕ) (i : ℤ) (x : Self) → Self.content b (Self.copied i x) ≡ Self.content b x };
 
-    ghost verdicts: { (b : List ℕ) (i : ℤ) (x : Self) → verdict b (copied i x) ≡ verdict b x };
+    ghost verdicts: { (b : List ℕ) (i : ℤ) (x : Self) → Self.verdict b (Self.copied i x) ≡ Self.verdict b x };
 }

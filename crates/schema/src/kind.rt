@@ -1,9 +1,9 @@
 ghost use Rattle.std.specs.Prelude.{◌≡◌, ℕ, List, ℤ, pos};
 
-use register::numbered::Numbered;
+use register::numbered::Lawful;
 
 // A kind of schema: a numbered thing that also tells its greatest field number, which is part of its content.
-pub trait SchemaKind: Numbered {
+pub trait SchemaKind: Lawful {
     // the greatest field number over a text block
     ghost greatest: { List ℕ → Self → ℤ };
 

@@ -5,8 +5,7 @@ ghost use Rattle.std.proofs.Common.{rules};
 
 use super::kind::SchemaKind;
 use register::fault::RecordFault;
-use register::numbered::{Identified, Numbered};
-use text::bytes::same_bytes;
+use register::numbered::{Identified, Lawful, Numbered};
 use text::text::Text;
 
 // A schema that is kept as it came: a text and a greatest field number.
@@ -51,9 +50,9 @@ impl Numbered for SealedSchema {
         }
     }
 
+    // Kept: by hand, since the text is compared by its bytes and the id not at all.
     fn same(&self, other: &Self, block: &[u8]) -> bool {
-        self.highest_field_id == other.highest_field_id
-            && same_bytes(self.text.bytes(block), other.text.bytes(block))
+        self.highest_field_id == other.highest_field_id && self.text.same(&other.text, block)
     }
 
     fn check(&self, block: &[u8]) -> Result<(), RecordFault> {
@@ -63,10 +62,12 @@ impl Numbered for SealedSchema {
         }
         Ok(())
     }
+}
 
+impl Lawful for SealedSchema {
     ghost decides = { sealed_decides };
 
-    ghost own_copy = { Prim.search rules };
+    ghost own = { Prim.search rules };
 
     ghost again = { Prim.search rules };
 

@@ -23,6 +23,7 @@ pub fn is_history_key(key: &[u8]) -> bool
 }
 
 // The key of the leave to drop dialects.
+// Kept: beside is_history_key, since each says its own key in its contract.
 pub fn is_drop_key(key: &[u8]) -> bool
     ensures { result ≡ same_bytes key.now drop_key }
 {

@@ -1,4 +1,3 @@
-pub mod Clips
 pub mod Compared
 pub mod Orders
 pub mod Slashes

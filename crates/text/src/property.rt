@@ -1,7 +1,6 @@
-ghost use Rattle.std.specs.Prelude.{◌≡◌, ◌&&◌, map, is_ok};
+ghost use Rattle.std.specs.Prelude.{◌≡◌, map, is_ok};
 ghost use Rattle.model.specs.Edits.{out_of_order};
-ghost use Rattle.text.specs.Meaning.{sound};
-ghost use Rattle.text.specs.Properties.{property_of};
+ghost use Rattle.text.specs.Properties.{property_of, sound_property};
 
 use super::bytes::before;
 use super::text::{Text, TextFault};
@@ -16,7 +15,7 @@ pub struct Property {
 impl Property {
     // Refuses a property one of whose texts is not sound.
     pub fn check(&self, block: &[u8]) -> Result<(), TextFault>
-        ensures { is_ok result ≡ (sound block.now self.now.key && sound block.now self.now.value) }
+        ensures { is_ok result ≡ sound_property block.now self.now }
     {
         self.key.check(block)?;
         self.value.check(block)

@@ -1,7 +1,9 @@
 ghost use Rattle.std.specs.Prelude.{◌≡◌, length, is_ok};
-ghost use Rattle.model.specs.Bytes.{trimmed};
+ghost use Rattle.model.specs.Bytes.{same_bytes, trimmed};
 ghost use Rattle.model.specs.Texts.{block_fits};
 ghost use Rattle.text.specs.Meaning.{bytes_of, sound};
+
+use super::bytes::same_bytes;
 
 // The most bytes of one text, and of the text block.
 pub const MAX_TEXT_BYTES: usize = 4096;
@@ -46,9 +48,15 @@ impl Text {
     pub fn bytes<'t>(&self, block: &'t [u8]) -> &'t [u8]
         ensures { result.now ≡ bytes_of block.now self.now }
     {
-        let start = self.place.min(block.len());
-        let rest = &block[start..];
-        &rest[0..self.length.min(rest.len())]
+        let rest = block.get(self.place..).unwrap_or(&[]);
+        rest.get(..self.length).unwrap_or(rest)
+    }
+
+    // The same bytes as the other.
+    pub fn same(&self, other: &Text, block: &[u8]) -> bool
+        ensures { result ≡ same_bytes (bytes_of block.now self.now) (bytes_of block.now other.now) }
+    {
+        same_bytes(self.bytes(block), other.bytes(block))
     }
 
     // The text without its trailing slashes.

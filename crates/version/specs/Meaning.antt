@@ -8,7 +8,7 @@ use Rattle.model.specs.Version.{Content, Version, LogEntry, Representation}
 use Rattle.model.specs.State.{VersionIn}
 use Rattle.model.specs.Edits.{out_of_order}
 use Rattle.text.specs.Meaning.{bytes_of, sound}
-use Rattle.text.specs.Properties.{property_of}
+use Rattle.text.specs.Properties.{property_of, sound_property}
 use Rattle.text.specs.declared.text.Text.{Text}
 use Rattle.version.specs.declared.view_version.SqlViewRepresentation.{SqlViewRepresentation}
 use Rattle.version.specs.declared.view_version.ViewVersion.{ViewVersion}
@@ -68,7 +68,7 @@ sound_if_there block (Some t) = sound block t
 -- all its texts are sound
 abbrev pub sound_texts : Bytes → ViewVersion → Bool
 sound_texts block v =
-    all (λ p. sound block p.key && sound block p.value) v.summary.now
+    all (sound_property block) v.summary.now
     && (all (λ r. sound block r.sql && sound block r.dialect) v.representations.now
     && (sound_if_there block v.default_catalog && all (sound block) v.default_namespace.now))
 

@@ -2,15 +2,15 @@ ghost use Rattle.std.specs.Prelude.{◌≡◌, ℕ, Bool, ◌&&◌, List, map, i
 ghost use Rattle.model.specs.Bytes.{all, same_list, same_bytes};
 ghost use Rattle.model.specs.Version.{Property as model_property, Representation, same_property, same_representation};
 ghost use Rattle.text.specs.Meaning.{bytes_of, sound};
-ghost use Rattle.text.specs.Properties.{property_of};
+ghost use Rattle.text.specs.Properties.{property_of, sound_property};
 ghost use Rattle.version.specs.Meaning.{representation_of};
 
 use super::view_version::SqlViewRepresentation;
-use text::bytes::same_bytes;
 use text::property::Property;
 use text::text::{Text, TextFault};
 
 // A piece of a version that is made of texts.
+// Kept: sameness by hand, since places in the block are compared as the texts that they name; a derived `==` would compare the places.
 pub(super) trait Piece: Copy {
     // the type of what pieces mean
     ghost Meaning: { Type 0 };
@@ -38,7 +38,7 @@ impl Piece for Text {
     ghost good = { sound };
 
     fn same_as(&self, other: &Text, block: &[u8]) -> bool {
-        same_bytes(self.bytes(block), other.bytes(block))
+        self.same(other, block)
     }
 
     fn check_texts(&self, block: &[u8]) -> Result<(), TextFault> {
@@ -53,7 +53,7 @@ impl Piece for Property {
 
     ghost alike = { same_property };
 
-    ghost good = { λ block p. sound block p.key && sound block p.value };
+    ghost good = { sound_property };
 
     fn same_as(&self, other: &Property, block: &[u8]) -> bool {
         self.key.same_as(&other.key, block) && self.value.same_as(&other.value, block)

@@ -8,7 +8,7 @@ ghost use Rattle.version.specs.Meaning.{content_of, version_verdict, renumbered,
 
 use super::piece::{Piece, check_pieces, same_pieces};
 use register::fault::RecordFault;
-use register::numbered::{Identified, Numbered};
+use register::numbered::{Identified, Lawful, Numbered};
 use text::bytes::is_ascii;
 use text::property::{Property, out_of_order};
 use text::text::{Text, TextFault};
@@ -58,15 +58,10 @@ impl<'v> ViewVersion<'v> {
 }
 
 // Both catalogs absent, or the same text.
-// Kept: `==` of two options would compare places in the block, and not texts.
 fn same_catalog(left: Option<Text>, right: Option<Text>, block: &[u8]) -> bool
     ensures { result ≡ same_text (option_map (bytes_of block.now) left) (option_map (bytes_of block.now) right) }
 {
-    match (left, right) {
-        (None, None) => true,
-        (Some(a), Some(b)) => a.same_as(&b, block),
-        _ => false,
-    }
+    left.map(|text| text.bytes(block)) == right.map(|text| text.bytes(block))
 }
 
 // Refuses a version of which a text is bad.
@@ -126,6 +121,7 @@ impl Numbered for ViewVersion<'_> {
         }
     }
 
+    // Kept: by hand, as the pieces are.
     fn same(&self, other: &Self, block: &[u8]) -> bool {
         self.schema_id == other.schema_id
             && same_pieces(self.summary, other.summary, block)
@@ -150,10 +146,12 @@ impl Numbered for ViewVersion<'_> {
         }
         Ok(())
     }
+}
 
+impl Lawful for ViewVersion<'_> {
     ghost decides = { same_law };
 
-    ghost own_copy = { λ x. refl };
+    ghost own = { λ x. refl };
 
     ghost again = { λ i j x. refl };
 

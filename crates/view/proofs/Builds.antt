@@ -51,10 +51,6 @@ module _ {X : Type 0} (g : Reading X) (block : Bytes) where
   additions_counted = is_count_by (λ us. additions (map (change_of g block) us)) adds_version refl additions_cons
 
 module _ (t : Table ViewVersionLog) (o : Option ViewVersionLog) where
-  -- without a pending entry the log has its room
-  pub over_none : o ≡ None → false ≡ over (room t) (with_entry (map entry_of (held_in t)) (option_map entry_of o))
-  over_none e = simp (e, length-map, length-take) (grind (arith, nat_tests))
-
   -- with one, it has none where it is full
   pub over_some : (x : ViewVersionLog) → o ≡ Some x → is_full t ≡ over (room t) (with_entry (map entry_of (held_in t)) (option_map entry_of o))
   over_some x e = simp (e, length-append, length-map, length-take) (grind (arith, nat_tests))

@@ -22,6 +22,7 @@ use version::view_version::{ViewVersion, ViewVersionLog};
 pub const FORMAT_VERSION: u32 = 1;
 
 // The current version id while there is no version.
+// Kept: a number, since the format writes -1 for it.
 const NO_VERSION_ID: i32 = -1;
 
 // The most of each list, which its table has room for.

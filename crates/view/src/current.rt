@@ -63,7 +63,7 @@ impl<'t, 'a, 'v, S: SchemaKind> ViewMetadataBuilder<'t, 'a, 'v, S> {
     }
 
     // The id that an add of the version gives where its schema is held, and whether it is recorded.
-    // Kept: a pair, as above.
+    // Kept: a pair, as above; and apart, since a new version has two tests more.
     fn version_choice(&self, version: &ViewVersion<'v>) -> Result<(i32, bool), Fault>
         ensures { meant result ≡ version_choice (model_of S.SchemaKind self.now) (version_in self.now.view.text.now version.now) }
     {

@@ -17,11 +17,11 @@ use fault::fault::{Fault, Part, Refusal};
 use register::numbered::Numbered;
 use register::register::Register;
 use schema::kind::SchemaKind;
-use text::bytes::same_bytes;
 use text::text::Text;
 use version::view_version::{ViewVersion, ViewVersionLog};
 
 // Stands for the schema or version last added in this builder.
+// Kept: a number, since the format writes -1 for it.
 pub const LAST_ADDED: i32 = -1;
 
 // Edits the metadata of a view in lent tables, and records the changes.
@@ -53,10 +53,7 @@ impl<'t, 'a, 'v, S: SchemaKind> ViewMetadataBuilder<'t, 'a, 'v, S> {
     {
         location.check(self.view.text)?;
         let location = location.without_trailing_slashes(self.view.text);
-        if same_bytes(
-            location.bytes(self.view.text),
-            self.view.location.bytes(self.view.text),
-        ) {
+        if location.same(&self.view.location, self.view.text) {
             return Ok(());
         }
         self.record(ViewUpdate::SetLocation { location })?;

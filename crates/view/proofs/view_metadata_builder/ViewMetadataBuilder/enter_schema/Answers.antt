@@ -24,7 +24,7 @@ returns-in_err-record-clause-did g c =
     let z = to_z-of_z w32 j (search rules) in
     unrecorded G _ b _ c.record.result c.record.ensures.answer (with_last_schema j (with_schemas (pushed y b.view.schemas) b)) refl refl
     (entered_noted G b c.args.schema g.met.S.SchemaKind.first (Ok j) c.in_ok-id.ensures j y _ refl
-    (copied_in G b c.args.schema g.met.S.Numbered.renamed g.met.S.Numbered.contents g.met.S.Numbered.verdicts g.met.S.SchemaKind.part y j (c.with_id-stored.ensures ∙ ap (λ i. g.S.Numbered.copied i c.args.schema) z))
+    (copied_in G b c.args.schema g.met.S.Lawful.renamed g.met.S.Lawful.contents g.met.S.Lawful.verdicts g.met.S.SchemaKind.part y j (c.with_id-stored.ensures ∙ ap (λ i. g.S.Numbered.copied i c.args.schema) z))
     (to_z-of_z w32 c.highest_field_id.result (search rules) ∙ c.highest_field_id.ensures))
     c.from_residual-in_err-record.result _ _ c.in_err-record.was c.from_residual-in_err-record.ensures.1 c.record.ensures.builder
 
@@ -37,7 +37,7 @@ returns-clause-did g c =
     let z = to_z-of_z w32 j (search rules) in
     noted G _ b _ c.record.result c.record.ensures.answer (with_last_schema j (with_schemas (pushed y b.view.schemas) b)) refl refl
     (entered_noted G b c.args.schema g.met.S.SchemaKind.first (Ok j) c.in_ok-id.ensures j y _ refl
-    (copied_in G b c.args.schema g.met.S.Numbered.renamed g.met.S.Numbered.contents g.met.S.Numbered.verdicts g.met.S.SchemaKind.part y j (c.with_id-stored.ensures ∙ ap (λ i. g.S.Numbered.copied i c.args.schema) z))
+    (copied_in G b c.args.schema g.met.S.Lawful.renamed g.met.S.Lawful.contents g.met.S.Lawful.verdicts g.met.S.SchemaKind.part y j (c.with_id-stored.ensures ∙ ap (λ i. g.S.Numbered.copied i c.args.schema) z))
     (to_z-of_z w32 c.highest_field_id.result (search rules) ∙ c.highest_field_id.ensures))
     _ _ _ c.in_ok-record.was
     (λ h. with_last_schema (z h) (with_schemas ((c.push.ensures.register ∙ ap (λ t. pushed y t.view.schemas) c.record.ensures.builder) h) (c.record.ensures.builder h)))

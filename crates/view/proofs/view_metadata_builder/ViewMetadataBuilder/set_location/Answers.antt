@@ -16,8 +16,8 @@ returns-in_err-check g c clock =
     let b = c.args.self.now in
     left_by G _ b c.from_residual.result b text_fault c.from_residual.ensures.1 refl (location_bad G b c.args.location clock (sym c.in_err-check.ensures))
 
-pub returns-then-same_bytes : goal.returns-then-same_bytes
-returns-then-same_bytes g c clock =
+pub returns-then-same : goal.returns-then-same
+returns-then-same g c clock =
     let G = reading g.S.Identified g.S.Numbered g.S.SchemaKind in
     let b = c.args.self.now in
     let u = c.without_trailing_slashes-location.result in
