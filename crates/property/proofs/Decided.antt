@@ -23,18 +23,13 @@ module _ (block : Bytes) (updates : List Property) (t : Properties) where
   new = put_properties (map (property_of block) updates) (properties_of block t)
 
   -- so many new keys, once the first tests passed
-  module _ (items : List Property) (added : ℕ) (all : items ≡ held_in t.table) (tests : FirstTests block updates (Ok tt))
-      (count : added ≡ count_by (is_new (property_of block) (map (property_of block) items)) updates) where
-    pub plan_full : room_of t - length items < added → Err (fault limit_reached properties_part) ≡ planned block updates t
-    plan_full h =
-        let grown = counted (property_of block) updates (map (property_of block) items) tests.0 in
-        grind (arith, nat_tests, tests.1 (room_of t) (properties_of block t), length-map items (property_of block))
+  module _ (added : ℕ) (tests : FirstTests block updates (Ok tt)) (count : added ≡ count_by (is_new (property_of block) (properties_of block t)) updates) where
+    pub plan_full : room_of t - length (held_in t.table) < added → Err (fault limit_reached properties_part) ≡ planned block updates t
+    plan_full h = grind (arith, nat_tests, counted (property_of block) updates (properties_of block t) tests.0, tests.1 (room_of t) (properties_of block t), length-map (held_in t.table) (property_of block))
 
-    pub plan_fits : (b : Bool) → added ≤ room_of t - length items → b ≡ list_any (differs (property_of block) (map (property_of block) items)) updates → Ok b ≡ planned block updates t
+    pub plan_fits : (b : Bool) → added ≤ room_of t - length (held_in t.table) → b ≡ list_any (differs (property_of block) (properties_of block t)) updates → Ok b ≡ planned block updates t
     plan_fits b h e =
-        let grown = counted (property_of block) updates (map (property_of block) items) tests.0 in
-        let turned = changed (property_of block) updates (map (property_of block) items) tests.0 in
-        grind (arith, nat_tests, tests.1 (room_of t) (properties_of block t), length-map items (property_of block), length-take t.table.held t.table.slots.now)
+        grind (arith, nat_tests, counted (property_of block) updates (properties_of block t) tests.0, changed (property_of block) updates (properties_of block t) tests.0, tests.1 (room_of t) (properties_of block t), length-map (held_in t.table) (property_of block), length-take t.table.held t.table.slots.now)
 
   -- a plan that was accepted: the list with the updates put has room
   pub accepted : {b : Bool} → Ok b ≡ planned block updates t → (after_updates block updates t ≡ Ok new) × (length new ≤ room_of t)

@@ -8,7 +8,7 @@ ghost use Rattle.model.specs.Numbers.{signed_reading, below_zero};
 ghost use Rattle.model.specs.Settings.{history_key, drop_key};
 ghost use Rattle.model.specs.Edits.{read_all, out_of_order, negative_size, put_property};
 ghost use Rattle.model.specs.Build.{look_up, history_size, drop_allowed};
-ghost use Rattle.text.specs.Meaning.{bytes_of, sound};
+ghost use Rattle.text.specs.Meaning.{bytes_of};
 ghost use Rattle.text.specs.Properties.{property_of, property_in};
 ghost use Rattle.register.specs.Tables.{held_in};
 ghost use Rattle.property.specs.Meaning.{properties_of, room_of, KeepsRest};
@@ -50,16 +50,6 @@ const TOO_MANY: PropertyFault = PropertyFault {
     refusal: PropertyRefusal::TooMany,
     position: 0,
 };
-
-// The value of the first property with the key.
-fn look_up<'t>(items: &[Property], key: &[u8], block: &'t [u8]) -> Option<&'t [u8]>
-    ensures { option_map (λ v. v.now) result ≡ look_up key.now (map (property_of block.now) items.now) }
-{
-    items
-        .iter()
-        .find(|q| same_bytes(q.key.bytes(block), key))
-        .map(|q| q.value.bytes(block))
-}
 
 // It sets the history size to a number below 0.
 fn is_negative_size(property: &Property, block: &[u8]) -> bool
@@ -109,23 +99,6 @@ fn check(updates: &[Property], block: &[u8]) -> Result<(), PropertyFault>
     )
 }
 
-// How many of the updates bring a new key.
-fn new_keys(items: &[Property], updates: &[Property], block: &[u8]) -> usize
-    ensures { result ≡ count_by (λ p. is_none (look_up (bytes_of block.now p.key) (map (property_of block.now) items.now))) updates.now }
-{
-    updates
-        .iter()
-        .filter(|p| look_up(items, p.key.bytes(block), block).is_none())
-        .count()
-}
-
-// Whether one of the updates brings a value other than the one that its key has.
-fn changes(items: &[Property], updates: &[Property], block: &[u8]) -> bool
-    ensures { result ≡ list_any (λ p. not (same_text (look_up (bytes_of block.now p.key) (map (property_of block.now) items.now)) (Some (bytes_of block.now p.value)))) updates.now }
-{
-    updates.iter().any(|p| look_up(items, p.key.bytes(block), block) != Some(p.value.bytes(block)))
-}
-
 impl<'a> Properties<'a> {
     // An empty table over lent memory.
     pub fn over<const N: usize>(records: &'a mut [Property; N]) -> Properties<'a>
@@ -144,7 +117,38 @@ impl<'a> Properties<'a> {
         self.table.items()
     }
 
+    // The value of the first property with the key.
+    fn look_up<'t>(&self, key: &[u8], block: &'t [u8]) -> Option<&'t [u8]>
+        ensures { option_map (λ v. v.now) result ≡ look_up key.now (properties_of block.now self.now) }
+    {
+        self.items()
+            .iter()
+            .find(|q| same_bytes(q.key.bytes(block), key))
+            .map(|q| q.value.bytes(block))
+    }
+
+    // How many of the updates bring a new key.
+    fn new_keys(&self, updates: &[Property], block: &[u8]) -> usize
+        ensures { result ≡ count_by (λ p. is_none (look_up (bytes_of block.now p.key) (properties_of block.now self.now))) updates.now }
+    {
+        updates
+            .iter()
+            .filter(|p| self.look_up(p.key.bytes(block), block).is_none())
+            .count()
+    }
+
+    // Whether one of the updates brings a value other than the one that its key has.
+    fn changes(&self, updates: &[Property], block: &[u8]) -> bool
+        ensures { result ≡ list_any (λ p. not (same_text (look_up (bytes_of block.now p.key) (properties_of block.now self.now)) (Some (bytes_of block.now p.value)))) updates.now }
+    {
+        updates.iter().any(|p| {
+            let held = self.look_up(p.key.bytes(block), block);
+            held != Some(p.value.bytes(block))
+        })
+    }
+
     // The place of the first property with the key.
+    // Kept: one by one, and no binary search: the contract holds for a table in any state, also one whose keys are out of order.
     fn find(&self, key: &[u8], block: &[u8]) -> Option<usize>
         ensures { result ≡ position (λ q. same_bytes key.now (bytes_of block.now q.key)) (held_in self.now.table) }
     {
@@ -154,6 +158,7 @@ impl<'a> Properties<'a> {
     }
 
     // The place of the first property whose key comes after this one; their count where there is none.
+    // Kept: one by one, as find.
     fn place(&self, key: &[u8], block: &[u8]) -> usize
         ensures { result ≡ prefix_len (λ q. not (before key.now (bytes_of block.now q.key))) (held_in self.now.table) }
     {
@@ -184,11 +189,10 @@ impl<'a> Properties<'a> {
         ensures { answered (λ changes. changes) result ≡ planned block.now updates.now self.now }
     {
         check(updates, block)?;
-        let items = self.items();
-        if new_keys(items, updates, block) > self.table.slots.len() - items.len() {
+        if self.new_keys(updates, block) > self.table.slots.len() - self.items().len() {
             return Err(TOO_MANY);
         }
-        Ok(changes(items, updates, block))
+        Ok(self.changes(updates, block))
     }
 
     // Sets the properties, one after another; a refusal writes nothing.
@@ -209,13 +213,13 @@ impl<'a> Properties<'a> {
     pub fn history_size(&self, block: &[u8]) -> u64
         ensures { result ≡ history_size (properties_of block.now self.now) }
     {
-        effective_size(look_up(self.items(), HISTORY_KEY, block))
+        effective_size(self.look_up(HISTORY_KEY, block))
     }
 
     // Dialects may be lost.
     pub fn drop_allowed(&self, block: &[u8]) -> bool
         ensures { result ≡ drop_allowed (look_up drop_key (properties_of block.now self.now)) }
     {
-        look_up(self.items(), DROP_KEY, block).is_some_and(is_truthy)
+        self.look_up(DROP_KEY, block).is_some_and(is_truthy)
     }
 }
