@@ -67,6 +67,7 @@ fn bad_text(updates: &[Property], block: &[u8]) -> Option<usize>
 }
 
 // The position of a history size below 0.
+// Kept: beside bad_text, which says what a whole call is refused with.
 fn negative_size(updates: &[Property], block: &[u8]) -> Option<usize>
     ensures { result ≡ negative_size 0 (map (property_of block.now) updates.now) }
 {
