@@ -13,6 +13,11 @@ pub enum Done {
 }
 
 impl fmt::Display for Done {
+    ghost use Rattle.std.specs.Prelude.{Some};
+    ghost use Rattle.audit.specs.Words.{done_words};
+
+    ghost output = { λ done. Some (done_words done) };
+
     fn fmt<W: fmt::Write>(&self, f: &mut fmt::Formatter<W>) -> fmt::Result {
         match self {
             Done::Accepted => write!(f, "accepted"),
