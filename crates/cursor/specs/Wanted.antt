@@ -1,7 +1,9 @@
 -- What a line should have had, in words. Assumes nothing.
-use Rattle.std.specs.Prelude.{ℕ, List, codes}
+use Rattle.std.specs.Prelude.{ℕ, List, ◌++◌, codes}
 use Rattle.cursor.specs.declared.fault.Expected.{Expected}
 use Rattle.cursor.specs.declared.fault.Expected.TheVariants.{Statement, Word, Text, TextOrNone, Number, Id, Time, Uuid, ListEnd, LineEnd}
+use Rattle.cursor.specs.declared.fault.ReadFault.{ReadFault}
+use Rattle.cursor.specs.declared.fault.ReadFault.TheVariants.{NoMemory, Expected as NotThere}
 
 -- what stands after "expected"
 abbrev pub wanted_words : Expected → List ℕ
@@ -15,3 +17,8 @@ wanted_words Time = codes "a number of 64 bits"
 wanted_words Uuid = codes "a uuid of 32 hexadecimal digits"
 wanted_words ListEnd = codes "the end of the list"
 wanted_words LineEnd = codes "the end of the line"
+
+-- why a line was not read, in words
+abbrev pub fault_words : ReadFault → List ℕ
+fault_words NoMemory = codes "out of memory"
+fault_words (NotThere e) = codes "expected " ++ wanted_words e
