@@ -1,107 +1,107 @@
--- Digits read one by one, under a limit. Assumes nothing.
-use Rattle.std.proofs.Common.{◌≡◌, ℕ, ◌+◌, ◌-◌, ◌*◌, ◌^◌, ◌<◌, ◌≤◌, true, false, ◌&&◌, eqb, leb, [], ◌∷◌, length, get_or, take, drop, ℤ, pos, neg_ℤ, Some, None, Option, refl, ap, ◌∙◌, inl, inr, arith}
-use Rattle.std.proofs.lemmas.List.{at_drop_more, at_drop_all, take_rest}
-use Rattle.std.proofs.lemmas.Bool.{cases_Bool, lt-leb, le-leb, leb-true, leb-false, eq-eqb, ne_eqb}
+-- What the library reads of a text is the number of the rules. Assumes nothing.
+use Rattle.std.proofs.Common.{◌≡◌, ℕ, zero, suc, ◌+◌, ◌-◌, ◌*◌, ◌^◌, ◌<◌, ◌≤◌, true, ◌&&◌, eqb, leb, cond, [], ◌∷◌, length, drop, ℤ, pos, neg_ℤ, Some, None, Option, Result, Ok, Err, refl, sym, ap, ◌∙◌, inl, inr, IsUtf8, rules, arith}
+use Rattle.std.specs.Int.{w64}
+use Rattle.std.specs.Result.{OkIff, result_ok}
+use Rattle.std.specs.Str.{IsAscii, all_ascii_digits}
+use Rattle.std.specs.Str.Parse.{IsNumeral, without_leading_plus, without_leading_sign, ParsesSigned, ParsesUnsigned}
+use Rattle.std.proofs.lemmas.Bool.{cases_Bool, cond_both, le-leb, leb-true, eqb-true}
 use Rattle.std.proofs.lemmas.Bool.Decides.{nat_tests}
+use Rattle.std.proofs.lemmas.Fmt.{IsAscii-from_digits}
+use Rattle.std.proofs.lemmas.Str.{IsUtf8-from_ascii}
+use Rattle.std.proofs.lemmas.Str.Parse.{IsNumeralModel, numerals_by_fold, parse_plain, parse_plus, parse_signed_minus, parse_signed_plus, parse_signed_plain}
 use Rattle.model.specs.Bytes.{Bytes}
 use Rattle.model.specs.Numbers.{digits, numeral, at_most, as_integer, signed_reading, unsigned_reading}
 
--- a number past the limit stays there with more digits
-over_stays : (top n : ℕ) (bs : Bytes) → top < n → at_most top (digits n bs) ≡ None
-over_stays top n [] h = simp (lt-leb n top h)
-over_stays top n (b ∷ bs) h =
+-- the number that digits make after n
+abbrev read_on : ℕ → Bytes → ℕ
+read_on n [] = n
+read_on n (b ∷ bs) = read_on (n * 10 + (b - 48)) bs
+
+own : IsNumeralModel (λ bs. all_ascii_digits bs ≡ true) (read_on 0)
+own = numerals_by_fold _ (search rules) read_on (search rules)
+
+-- the rules' number of some digits: it, or none where a byte is no digit
+digits_are : (n : ℕ) (bs : Bytes) → digits n bs ≡ cond (all_ascii_digits bs) (Some (read_on n bs)) None
+digits_are n [] = refl
+digits_are n (b ∷ bs) =
     elim (cases_Bool (leb 48 b && leb b 57)) [
-      | inl t ↦ simp t (over_stays top (n * 10 + (b - 48)) bs (omega arith))
+      | inl t ↦ simp t (digits_are (n * 10 + (b - 48)) bs)
       | inr t ↦ simp t
     ]
 
--- one digit more: the number so far, or none for good
-read : (top n m b : ℕ) (bs : Bytes) → at_most top (digits n (b ∷ [])) ≡ Some m → at_most top (digits n (b ∷ bs)) ≡ at_most top (digits m bs)
-read top n m b bs e =
-    elim (cases_Bool (leb 48 b && leb b 57)) [
-      | inl t ↦
-          (elim (cases_Bool (leb (n * 10 + (b - 48)) top)) [
-            | inl k ↦ let q : Some (n * 10 + (b - 48)) ≡ Some m = simp (t, k) at e in let v : n * 10 + (b - 48) ≡ m = cc in simp (t, v)
-            | inr k ↦ let q : None ≡ Some m = simp (t, k) at e in let z : ◌≡◌ {A = ℕ} 0 1 = cc in absurd (omega arith)
+-- a number that is read under a limit
+read : (top : ℕ) (bs : Bytes) → all_ascii_digits bs ≡ true → 0 < length bs → read_on 0 bs ≤ top → at_most top (numeral bs) ≡ Some (read_on 0 bs)
+read top [] d h l = absurd (omega arith)
+read top (b ∷ bs) d h l = ap (at_most top) (digits_are 0 (b ∷ bs)) ∙ simp (d, le-leb (read_on 0 (b ∷ bs)) top l)
+
+-- and one that is not
+unread : (top : ℕ) (bs : Bytes) → ¬ ((all_ascii_digits bs ≡ true) × (0 < length bs) × (read_on 0 bs ≤ top)) → at_most top (numeral bs) ≡ None
+unread top [] h = refl
+unread top (b ∷ bs) h =
+    elim (cases_Bool (all_ascii_digits (b ∷ bs))) [
+      | inl d ↦
+          (elim (cases_Bool (leb (read_on 0 (b ∷ bs)) top)) [
+            | inl k ↦ absurd (h (d, omega arith, leb-true _ _ k))
+            | inr k ↦ ap (at_most top) (digits_are 0 (b ∷ bs)) ∙ simp (d, k)
           ])
-      | inr t ↦ let q : None ≡ Some m = simp t at e in let z : ◌≡◌ {A = ℕ} 0 1 = cc in absurd (omega arith)
+      | inr d ↦ ap (at_most top) (digits_are 0 (b ∷ bs)) ∙ simp d
     ]
 
-refused : (top n b : ℕ) (bs : Bytes) → at_most top (digits n (b ∷ [])) ≡ None → at_most top (digits n (b ∷ bs)) ≡ None
-refused top n b bs e =
-    elim (cases_Bool (leb 48 b && leb b 57)) [
-      | inl t ↦
-          (elim (cases_Bool (leb (n * 10 + (b - 48)) top)) [
-            | inl k ↦ let q : Some (n * 10 + (b - 48)) ≡ None = simp (t, k) at e in let z : ◌≡◌ {A = ℕ} 0 1 = cc in absurd (omega arith)
-            | inr k ↦ simp t (over_stays top (n * 10 + (b - 48)) bs (leb-false _ _ k))
+-- digits under a limit, as the library reads them and as the rules do
+same : {T E : Type 0} (f : Option ℕ → Option T) (top : ℕ) (bs : Bytes) (x : T) (r : Result T E) → f None ≡ None → f (Some (read_on 0 bs)) ≡ Some x →
+    OkIff r ((all_ascii_digits bs ≡ true) × (0 < length bs) × (read_on 0 bs ≤ top)) x → result_ok r ≡ f (at_most top (numeral bs))
+same f top bs x (Ok y) n s h = ap Some h.1 ∙ (sym s ∙ ap f (sym (read top bs h.0.0 h.0.1 h.0.2)))
+same f top bs x (Err e) n s h = sym n ∙ ap f (sym (unread top bs h))
+
+-- and where the limit is the first number that does not fit
+same_below : {T E : Type 0} (f : Option ℕ → Option T) (top : ℕ) (bs : Bytes) (x : T) (r : Result T E) → f None ≡ None → f (Some (read_on 0 bs)) ≡ Some x →
+    OkIff r ((all_ascii_digits bs ≡ true) × (0 < length bs) × (read_on 0 bs < suc top)) x → result_ok r ≡ f (at_most top (numeral bs))
+same_below {T} {E} f top bs x (Ok y) n s h = same {E = E} f top bs x (Ok y) n s ((h.0.0, h.0.1, omega (arith, h.0.2)), h.1)
+same_below f top bs x (Err e) n s h = same f top bs x (Err e) n s (λ p. h (p.0, p.1, omega (arith, p.2)))
+
+-- what the library reads of a text
+pub signed_same : {E : Type 0} (bs : Bytes) (r : Result ℤ E) → ParsesSigned w64 10 bs r → result_ok r ≡ signed_reading bs
+signed_same [] r h = same_below (as_integer pos) (2 ^ 63 - 1) [] _ r refl refl (parse_signed_plain own w64 [] r h (λ e. omega (arith, e)) (λ e. omega (arith, e)))
+signed_same (b ∷ bs) r h =
+    elim (cases_Bool (eqb b 45)) [
+      | inl t ↦ same (as_integer (λ n. neg_ℤ (pos n))) (2 ^ 63) bs _ r refl refl (parse_signed_minus own w64 (b ∷ bs) r h (eqb-true b 45 t)) ∙ simp t
+      | inr t ↦
+          (elim (cases_Bool (eqb b 43)) [
+            | inl u ↦ same_below (as_integer pos) (2 ^ 63 - 1) bs _ r refl refl (parse_signed_plus own w64 (b ∷ bs) r h (eqb-true b 43 u)) ∙ simp (t, u)
+            | inr u ↦ same_below (as_integer pos) (2 ^ 63 - 1) (b ∷ bs) _ r refl refl (parse_signed_plain own w64 (b ∷ bs) r h (grind (arith, nat_tests, u)) (grind (arith, nat_tests, t))) ∙ simp (t, u)
           ])
-      | inr t ↦ simp t
     ]
 
--- a number under the limit
-at_most_fits : (top m : ℕ) (o : Option ℕ) → at_most top o ≡ Some m → m ≤ top
-at_most_fits top m None e = let z : ◌≡◌ {A = ℕ} 0 1 = cc in absurd (omega arith)
-at_most_fits top m (Some n) e =
-    elim (cases_Bool (leb n top)) [
-      | inl k ↦ let q : Some n ≡ Some m = simp k at e in let v : n ≡ m = cc in omega (arith, leb-true n top k)
-      | inr k ↦ let q : None ≡ Some m = simp k at e in let z : ◌≡◌ {A = ℕ} 0 1 = cc in absurd (omega arith)
+pub unsigned_same : {E : Type 0} (bs : Bytes) (r : Result ℕ E) → ParsesUnsigned 64 10 bs r → result_ok r ≡ unsigned_reading bs
+unsigned_same [] r h = same_below (λ o. o) (2 ^ 64 - 1) [] _ r refl refl (parse_plain own 64 [] r h (λ e. omega (arith, e)))
+unsigned_same (b ∷ bs) r h =
+    elim (cases_Bool (eqb b 43)) [
+      | inl u ↦ same_below (λ o. o) (2 ^ 64 - 1) bs _ r refl refl (parse_plus own 64 (b ∷ bs) r h (eqb-true b 43 u)) ∙ simp u
+      | inr u ↦ same_below (λ o. o) (2 ^ 64 - 1) (b ∷ bs) _ r refl refl (parse_plain own 64 (b ∷ bs) r h (grind (arith, nat_tests, u))) ∙ simp u
     ]
 
--- the same, of the digit at place i
-module _ (top n : ℕ) (bs : Bytes) (i : ℕ) (h : i < length bs) where
-  pub digit_read : (m : ℕ) → at_most top (digits n (get_or bs i 0 ∷ [])) ≡ Some m →
-      (m ≤ top) × (at_most top (digits n (drop i bs)) ≡ at_most top (digits m (drop (i + 1) bs)))
-  digit_read m e = (
-    at_most_fits top m (digits n (get_or bs i 0 ∷ [])) e,
-    at_drop_more (λ cs. at_most top (digits n cs)) bs i 0 h ∙ read top n m (get_or bs i 0) (drop (i + 1) bs) e,
-  )
+-- what writes a number is a text
+ascii_cons : (b : ℕ) (bs : Bytes) → b < 128 → IsAscii bs → IsAscii (b ∷ bs)
+ascii_cons b bs h k zero = h
+ascii_cons b bs h k (suc i) = k i
 
-  pub digit_refused : at_most top (digits n (get_or bs i 0 ∷ [])) ≡ None → at_most top (digits n (drop i bs)) ≡ None
-  digit_refused e = at_drop_more (λ cs. at_most top (digits n cs)) bs i 0 h ∙ refused top n (get_or bs i 0) (drop (i + 1) bs) e
+after_plus : (b : ℕ) (bs : Bytes) → IsNumeral 10 (without_leading_plus (b ∷ bs)) → IsAscii (b ∷ bs)
+after_plus b bs =
+    cond_both (eqb b 43) 1 0 (λ n. IsNumeral 10 (drop n (b ∷ bs)) → IsAscii (b ∷ bs))
+    (λ e d. ascii_cons b bs (grind (arith, nat_tests, e)) (IsAscii-from_digits bs d.1))
+    (λ _ d. IsAscii-from_digits (b ∷ bs) d.1)
 
--- no digit is left
-pub digits_ended : (top n : ℕ) (bs : Bytes) (i : ℕ) → length bs ≤ i → n ≤ top → at_most top (digits n (drop i bs)) ≡ Some n
-digits_ended top n bs i h l = at_drop_all (λ cs. at_most top (digits n cs)) bs i h ∙ simp (le-leb n top l)
+after_sign : (b : ℕ) (bs : Bytes) → IsNumeral 10 (without_leading_sign (b ∷ bs)) → IsAscii (b ∷ bs)
+after_sign b bs =
+    cond_both (eqb b 45) bs (without_leading_plus (b ∷ bs)) (λ ds. IsNumeral 10 ds → IsAscii (b ∷ bs))
+    (λ e d. ascii_cons b bs (grind (arith, nat_tests, e)) (IsAscii-from_digits bs d.1))
+    (λ _. after_plus b bs)
 
--- at least one digit
-pub numeral_is : (bs : Bytes) → 0 < length bs → numeral bs ≡ digits 0 bs
-numeral_is [] h = absurd (omega arith)
-numeral_is (b ∷ bs) h = refl
+-- so what is no text is read as none
+pub signed_none : (bs : Bytes) → ¬ IsUtf8 bs → None ≡ signed_reading bs
+signed_none [] h = refl
+signed_none (b ∷ bs) h = signed_same {E = ℕ} (b ∷ bs) (Err 0) (λ p. h (IsUtf8-from_ascii (b ∷ bs) (after_sign b bs p.0)))
 
--- a limit under another
-pub under_limit : (top more : ℕ) (o : Option ℕ) → top ≤ more → at_most top (at_most more o) ≡ at_most top o
-under_limit top more None h = refl
-under_limit top more (Some n) h =
-    elim (cases_Bool (leb n more)) [
-      | inl k ↦ simp k
-      | inr k ↦ let l : leb n top ≡ false = grind (arith, nat_tests) in simp (k, l)
-    ]
-
--- a text that begins with a sign: the code has the rest as a part of the slice
-rest_is : (b : ℕ) (bs : Bytes) → take (length (b ∷ bs) - 1) (drop 1 (b ∷ bs)) ≡ bs
-rest_is b bs = take_rest (b ∷ bs) 1
-
-pub minus_read : (bs : Bytes) (o : Option ℕ) (r : Option ℤ) → 0 < length bs → get_or bs 0 0 ≡ 45 → o ≡ at_most (2 ^ 64 - 1) (numeral (take (length bs - 1) (drop 1 bs))) →
-    r ≡ as_integer (λ n. neg_ℤ (pos n)) (at_most (2 ^ 63) o) → r ≡ signed_reading bs
-minus_read [] o r h e p q = absurd (omega arith)
-minus_read (b ∷ bs) o r h e p q =
-    let t : eqb b 45 ≡ true = eq-eqb b 45 e in
-    let u : at_most (2 ^ 63) o ≡ at_most (2 ^ 63) (numeral bs) =
-    ap (at_most (2 ^ 63)) (p ∙ ap (λ cs. at_most (2 ^ 64 - 1) (numeral cs)) (rest_is b bs)) ∙ under_limit (2 ^ 63) (2 ^ 64 - 1) (numeral bs) (omega arith) in
-    q ∙ (ap (as_integer (λ n. neg_ℤ (pos n))) u ∙ simp t)
-
-pub plus_read : (bs : Bytes) (o : Option ℕ) (r : Option ℤ) → 0 < length bs → get_or bs 0 0 ≡ 43 → o ≡ at_most (2 ^ 64 - 1) (numeral (take (length bs - 1) (drop 1 bs))) →
-    r ≡ as_integer pos (at_most (2 ^ 63 - 1) o) → r ≡ signed_reading bs
-plus_read [] o r h e p q = absurd (omega arith)
-plus_read (b ∷ bs) o r h e p q =
-    let t : eqb b 43 ≡ true = eq-eqb b 43 e in
-    let s : eqb b 45 ≡ false = ne_eqb b 45 (λ z. omega arith) in
-    let u : at_most (2 ^ 63 - 1) o ≡ at_most (2 ^ 63 - 1) (numeral bs) =
-    ap (at_most (2 ^ 63 - 1)) (p ∙ ap (λ cs. at_most (2 ^ 64 - 1) (numeral cs)) (rest_is b bs)) ∙ under_limit (2 ^ 63 - 1) (2 ^ 64 - 1) (numeral bs) (omega arith) in
-    q ∙ (ap (as_integer pos) u ∙ simp (s, t))
-
-pub plus_unsigned : (bs : Bytes) (o : Option ℕ) → 0 < length bs → get_or bs 0 0 ≡ 43 → o ≡ at_most (2 ^ 64 - 1) (numeral (take (length bs - 1) (drop 1 bs))) → o ≡ unsigned_reading bs
-plus_unsigned [] o h e p = absurd (omega arith)
-plus_unsigned (b ∷ bs) o h e p =
-    let t : eqb b 43 ≡ true = eq-eqb b 43 e in
-    p ∙ (ap (λ cs. at_most (2 ^ 64 - 1) (numeral cs)) (rest_is b bs) ∙ simp t)
+pub unsigned_none : (bs : Bytes) → ¬ IsUtf8 bs → None ≡ unsigned_reading bs
+unsigned_none [] h = refl
+unsigned_none (b ∷ bs) h = unsigned_same {E = ℕ} (b ∷ bs) (Err 0) (λ p. h (IsUtf8-from_ascii (b ∷ bs) (after_plus b bs p.0)))

@@ -1,63 +1,22 @@
-ghost use Rattle.std.specs.Prelude.{◌≡◌, ◌-◌, ◌^◌, [], ◌∷◌, pos, neg_ℤ};
-ghost use Rattle.model.specs.Numbers.{digits, numeral, at_most, as_integer, signed_reading, unsigned_reading};
+ghost use Rattle.std.specs.Prelude.{◌≡◌};
+ghost use Rattle.model.specs.Numbers.{signed_reading, unsigned_reading};
 
-// The number n with one more digit; none where b is no digit, or the number is past the limit.
-fn with_digit(n: u64, b: u8) -> Option<u64>
-    ensures { result ≡ at_most (2 ^ 64 - 1) (digits n (b ∷ [])) }
-{
-    match b {
-        b'0'..=b'9' => n.checked_mul(10)?.checked_add(u64::from(b - b'0')),
-        _ => None,
-    }
-}
-
-// The number that the digits make; none where there is no digit, or another byte, or the number is past the limit.
-fn numeral(bytes: &[u8]) -> Option<u64>
-    ensures { result ≡ at_most (2 ^ 64 - 1) (numeral bytes.now) }
-{
-    if bytes.is_empty() {
-        return None;
-    }
-    let mut n = 0;
-    for b in bytes {
-        n = with_digit(n, *b)?;
-    }
-    Some(n)
-}
-
-// The number as it is, if it fits.
-fn positive(n: Option<u64>) -> Option<i64>
-    ensures { result ≡ as_integer pos (at_most (2 ^ 63 - 1) n) }
-{
-    i64::try_from(n?).ok()
-}
-
-// The number below zero, if it fits.
-fn negative(n: Option<u64>) -> Option<i64>
-    ensures { result ≡ as_integer (λ m. neg_ℤ (pos m)) (at_most (2 ^ 63) n) }
-{
-    0i64.checked_sub_unsigned(n?)
-}
+use std::str::from_utf8;
 
 // The number that a text writes with one sign or none before its digits.
+#[tactic(auto, using(crate::proofs::Readings::signed_same, crate::proofs::Readings::signed_none))]
 pub fn signed_reading(bytes: &[u8]) -> Option<i64>
     ensures { result ≡ signed_reading bytes.now }
 {
-    match bytes {
-        [b'-', rest @ ..] => negative(numeral(rest)),
-        [b'+', rest @ ..] => positive(numeral(rest)),
-        _ => positive(numeral(bytes)),
-    }
+    from_utf8(bytes).ok()?.parse::<i64>().ok()
 }
 
 // The number that a text writes with one plus or none before its digits.
+#[tactic(auto, using(crate::proofs::Readings::unsigned_same, crate::proofs::Readings::unsigned_none))]
 pub fn unsigned_reading(bytes: &[u8]) -> Option<u64>
     ensures { result ≡ unsigned_reading bytes.now }
 {
-    match bytes {
-        [b'+', rest @ ..] => numeral(rest),
-        _ => numeral(bytes),
-    }
+    from_utf8(bytes).ok()?.parse::<u64>().ok()
 }
 
 #[cfg(test)]
