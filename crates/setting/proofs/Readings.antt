@@ -1,15 +1,14 @@
 -- What the library reads of a text is the number of the rules. Assumes nothing.
-use Rattle.std.proofs.Common.{◌≡◌, ℕ, zero, suc, ◌+◌, ◌-◌, ◌*◌, ◌^◌, ◌<◌, ◌≤◌, true, ◌&&◌, eqb, leb, cond, [], ◌∷◌, length, drop, ℤ, pos, neg_ℤ, Some, None, Option, Result, Ok, Err, refl, sym, ap, ◌∙◌, inl, inr, IsUtf8, rules, arith}
+use Rattle.std.proofs.Common.{◌≡◌, ℕ, suc, ◌+◌, ◌-◌, ◌*◌, ◌^◌, ◌<◌, ◌≤◌, true, ◌&&◌, eqb, leb, cond, [], ◌∷◌, length, ℤ, pos, neg_ℤ, Some, None, Option, Result, Ok, Err, refl, sym, ap, ◌∙◌, inl, inr, IsUtf8, rules, arith}
 use Rattle.std.specs.Int.{w64}
 use Rattle.std.specs.Result.{OkIff, result_ok}
-use Rattle.std.specs.Str.{IsAscii, all_ascii_digits}
-use Rattle.std.specs.Str.Parse.{IsNumeral, without_leading_plus, without_leading_sign, ParsesSigned, ParsesUnsigned}
-use Rattle.std.proofs.lemmas.Bool.{cases_Bool, cond_both, le-leb, leb-true, eqb-true}
+use Rattle.std.specs.Str.{all_ascii_digits}
+use Rattle.std.specs.Str.Parse.{ParsesSigned, ParsesUnsigned}
+use Rattle.std.proofs.lemmas.Bool.{cases_Bool, le-leb, leb-true, eqb-true}
 use Rattle.std.proofs.lemmas.Bool.Decides.{nat_tests}
-use Rattle.std.proofs.lemmas.Fmt.{IsAscii-from_digits}
-use Rattle.std.proofs.lemmas.Str.{IsUtf8-from_ascii}
 use Rattle.std.proofs.lemmas.Str.Parse.{IsNumeralModel, numerals_by_fold, parse_plain, parse_plus, parse_signed_minus, parse_signed_plus, parse_signed_plain}
 use Rattle.model.specs.Bytes.{Bytes}
+use Rattle.model.proofs.Numerals.{unsigned_text, signed_text}
 use Rattle.model.specs.Numbers.{digits, numeral, at_most, as_integer, signed_reading, unsigned_reading}
 
 -- the number that digits make after n
@@ -80,28 +79,9 @@ unsigned_same (b ∷ bs) r h =
       | inr u ↦ same_below (λ o. o) (2 ^ 64 - 1) (b ∷ bs) _ r refl refl (parse_plain own 64 (b ∷ bs) r h (grind (arith, nat_tests, u))) ∙ simp u
     ]
 
--- what writes a number is a text
-ascii_cons : (b : ℕ) (bs : Bytes) → b < 128 → IsAscii bs → IsAscii (b ∷ bs)
-ascii_cons b bs h k zero = h
-ascii_cons b bs h k (suc i) = k i
-
-after_plus : (b : ℕ) (bs : Bytes) → IsNumeral 10 (without_leading_plus (b ∷ bs)) → IsAscii (b ∷ bs)
-after_plus b bs =
-    cond_both (eqb b 43) 1 0 (λ n. IsNumeral 10 (drop n (b ∷ bs)) → IsAscii (b ∷ bs))
-    (λ e d. ascii_cons b bs (grind (arith, nat_tests, e)) (IsAscii-from_digits bs d.1))
-    (λ _ d. IsAscii-from_digits (b ∷ bs) d.1)
-
-after_sign : (b : ℕ) (bs : Bytes) → IsNumeral 10 (without_leading_sign (b ∷ bs)) → IsAscii (b ∷ bs)
-after_sign b bs =
-    cond_both (eqb b 45) bs (without_leading_plus (b ∷ bs)) (λ ds. IsNumeral 10 ds → IsAscii (b ∷ bs))
-    (λ e d. ascii_cons b bs (grind (arith, nat_tests, e)) (IsAscii-from_digits bs d.1))
-    (λ _. after_plus b bs)
-
--- so what is no text is read as none
+-- what is no text is read as none
 pub signed_none : (bs : Bytes) → ¬ IsUtf8 bs → None ≡ signed_reading bs
-signed_none [] h = refl
-signed_none (b ∷ bs) h = signed_same {E = ℕ} (b ∷ bs) (Err 0) (λ p. h (IsUtf8-from_ascii (b ∷ bs) (after_sign b bs p.0)))
+signed_none bs h = signed_same {E = ℕ} bs (Err 0) (λ p. h (signed_text bs p.0))
 
 pub unsigned_none : (bs : Bytes) → ¬ IsUtf8 bs → None ≡ unsigned_reading bs
-unsigned_none [] h = refl
-unsigned_none (b ∷ bs) h = unsigned_same {E = ℕ} (b ∷ bs) (Err 0) (λ p. h (IsUtf8-from_ascii (b ∷ bs) (after_plus b bs p.0)))
+unsigned_none bs h = unsigned_same {E = ℕ} bs (Err 0) (λ p. h (unsigned_text bs p.0))
