@@ -174,14 +174,6 @@ impl<'b> Printer<'b> {
     {
         write!(self, "log {} at {}", entry.version_id, entry.timestamp_ms)
     }
-
-    // property TEXT = TEXT
-    pub fn property(&mut self, property: &Property) -> Result<(), AllocError>
-        ensures { Prints self.old result self.new (codes "property " ++ shown_pair self.old.block.now property.now) }
-    {
-        self.words("property ")?;
-        property.print(self)
-    }
 }
 
 impl Printed for Text {

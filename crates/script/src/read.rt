@@ -66,6 +66,7 @@ impl<'l, 'b> Reader<'l, 'b> {
 
     // A list; it has fewer elements than the line has bytes.
     // Kept: the count ends the loop; with `while` each reader would have to promise that it takes a byte of the line.
+    // The cursor is borrowed first, since a call on a field of a struct that holds a reference is not covered.
     fn list<T: Element>(&mut self) -> Result<Vec<T>, ReadFault> {
         self.cursor.expect("[")?;
         let mut list = Vec::new(*self.block.allocator());

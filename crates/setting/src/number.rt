@@ -12,6 +12,7 @@ pub fn signed_reading(bytes: &[u8]) -> Option<i64>
 }
 
 // The number that a text writes with one plus or none before its digits.
+// Kept: beside signed_reading; one function over the type would promise only what `FromStr` says.
 #[tactic(auto, using(crate::proofs::Readings::unsigned_same, crate::proofs::Readings::unsigned_none))]
 pub fn unsigned_reading(bytes: &[u8]) -> Option<u64>
     ensures { result ≡ unsigned_reading bytes.now }

@@ -22,7 +22,7 @@ use Rattle.view.specs.declared.view_update.ViewUpdate.TheVariants.{AssignUuid, S
 use Rattle.view.specs.declared.view.View.{View}
 use Rattle.view.specs.declared.view_metadata_builder.ViewMetadataBuilder.{ViewMetadataBuilder}
 
--- what a kind of schema states: of a schema its id and its copy under another, over a text block its content, verdict and greatest field number; and contents and their test
+-- what a kind of schema states: of a schema its id and its copy under another, the first id, over a text block its content, verdict and greatest field number; and contents and their test
 abbrev pub Reading : Type 0 → Type 1
 Reading X = record {
   named : X → ℤ;

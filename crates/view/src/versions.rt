@@ -41,9 +41,10 @@ impl<'t, 'a, 'v, S: SchemaKind> ViewMetadataBuilder<'t, 'a, 'v, S> {
     pub(crate) fn require_fresh(&self, version: &ViewVersion<'v>) -> Result<(), Fault>
         ensures { meant result ≡ refuse (repeats same_bytes (dialects (content_of self.now.view.text.now version.now))) (fault repeated_dialect versions_part) (refuse (too_early_for version.now.timestamp_ms (model_of S.SchemaKind self.now).metadata.version_log) (fault time_too_early versions_part) (Ok tt)) }
     {
-        if require_unique_dialects(version, self.view.text).is_err() {
-            return Err(Fault::new(Refusal::RepeatedDialect, Part::Versions));
-        }
+        require_unique_dialects(version, self.view.text).map_err(|_| Fault::new(
+            Refusal::RepeatedDialect,
+            Part::Versions,
+        ))?;
         if too_early(version.timestamp_ms, self.view.version_log.items()) {
             return Err(Fault::new(Refusal::TimeTooEarly, Part::Versions));
         }
