@@ -1,5 +1,5 @@
 -- Only the last entry of the log counts. Assumes nothing.
-use Rattle.std.proofs.Common.{◌≡◌, ℕ, suc, ◌-◌, ◌≤◌, false, List, [], ◌∷◌, map, length, get_or, ℤ, pos, ◌+ℤ◌, refl, ap, ◌∙◌, arith}
+use Rattle.std.proofs.Common.{◌≡◌, ℕ, suc, ◌-◌, ◌≤◌, List, [], ◌∷◌, map, length, get_or, ℤ, pos, ◌+ℤ◌, refl, ap, ◌∙◌, arith}
 use lib.Signed.{lt_z}
 use Rattle.model.specs.Edits.{too_early_for}
 use Rattle.version.specs.Meaning.{entry_of}
@@ -8,10 +8,6 @@ use Rattle.version.specs.declared.view_version.ViewVersionLog.{ViewVersionLog}
 -- the default that reads of a log are written with
 abbrev pub no_entry : ViewVersionLog
 no_entry = record { version_id = pos 0; timestamp_ms = pos 0 }
-
-pub early_none : (time : ℤ) (log : List ViewVersionLog) → length log ≤ 0 → too_early_for time (map entry_of log) ≡ false
-early_none time [] h = refl
-early_none time (e ∷ log) h = absurd (omega arith)
 
 pub early_last : (time : ℤ) (log : List ViewVersionLog) → 1 ≤ length log → lt_z (time +ℤ pos 60000) (get_or log (length log - 1) no_entry).timestamp_ms ≡ too_early_for time (map entry_of log)
 early_last time [] h = absurd (omega arith)

@@ -1,23 +1,16 @@
--- What == and < of slices of bytes answer, and a test of every element. Assumes nothing.
-use Rattle.std.proofs.Common.{leb, subst, ◌≡◌, Bool, length, get_or, inl, inr, nat_eq, Some, refl, arith}
+-- What < of slices of bytes answers, and a test of every byte. Assumes nothing.
+use Rattle.std.proofs.Common.{leb, subst, ◌≡◌, Bool, length, get_or, inl, inr, Some, refl, arith}
 use Rattle.std.specs.Ordering.{is_lt, nat_cmp, is_some_and}
-use Rattle.std.specs.Cmp.Lexicographic.{pointwise, slice_partial_cmp}
-use Rattle.std.proofs.lemmas.Slice.Eq.{slice_eq-Decides, compares_Decides}
+use Rattle.std.specs.Cmp.Lexicographic.{slice_partial_cmp}
 use Rattle.std.proofs.lemmas.List.{get_or_past}
 use Rattle.std.proofs.lemmas.Cmp.{same_from_slice_cmp_tested}
-use Rattle.std.proofs.lemmas.Bool.Decides.{same_from_decides, nat_tests, Decides-eqb}
+use Rattle.std.proofs.lemmas.Bool.Decides.{nat_tests}
 use Rattle.std.specs.List.{list_all}
 use Rattle.std.specs.Bool.{MatchBool}
 use Rattle.std.specs.Str.{IsAscii, IsNotAscii}
 use Rattle.std.proofs.lemmas.List.Recursion.{and_is}
 use Rattle.std.proofs.lemmas.Bool.{le-leb, lt-leb, cases_lt}
-use Rattle.model.specs.Bytes.{Bytes, same_bytes, before, ascii}
-
--- == is the test that goes byte by byte
-pub same_is : (xs ys : Bytes) (r : Bool) → r ≡ pointwise nat_eq xs ys → r ≡ same_bytes xs ys
-same_is xs ys r m =
-    same_from_decides r (same_bytes xs ys) (slice_eq-Decides Decides-eqb xs ys r m)
-    (compares_Decides same_bytes (record { empty = refl; shorter = λ _ _. refl; longer = λ _ _. refl; heads = λ _ _ _ _. refl }) xs ys)
+use Rattle.model.specs.Bytes.{Bytes, before, ascii}
 
 -- < is the order of bytes
 pub before_is : (xs ys : Bytes) (r : Bool) → r ≡ is_some_and is_lt (slice_partial_cmp (λ x y. Some (nat_cmp x y)) xs ys) → r ≡ before xs ys

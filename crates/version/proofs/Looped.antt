@@ -1,22 +1,7 @@
--- A loop over what is left of a list, one element on: tests of all, of some, and of two lists. Assumes nothing.
-use Rattle.std.proofs.Common.{◌≡◌, ℕ, ◌+◌, ◌<◌, ◌≤◌, Bool, true, false, ◌&&◌, List, [], ◌∷◌, map, length, get_or, drop, sym, refl, ap, ◌∙◌, arith}
+-- Two lists compared place by place. Assumes nothing.
+use Rattle.std.proofs.Common.{◌≡◌, Bool, ◌&&◌, List, [], ◌∷◌, map, length, refl, ap, arith}
 use Rattle.std.specs.List.{zip, list_all}
-use Rattle.std.proofs.lemmas.List.{drop_more, drop_all}
-use Rattle.model.specs.Bytes.{all, same_list}
-
--- what is left begins with the element that is read
-pub left_from : {A : Type 0} (xs : List A) (i : ℕ) (d : A) {x : A} → i < length xs → get_or xs i d ≡ x → drop i xs ≡ x ∷ drop (i + 1) xs
-left_from xs i d h e = drop_more xs i d h ∙ ap (λ z. z ∷ drop (i + 1) xs) e
-
-pub all_left : {A : Type 0} (test : A → Bool) (xs : List A) (i : ℕ) → length xs ≤ i → true ≡ all test (drop i xs)
-all_left test xs i h = sym (ap (all test) (drop_all i xs h))
-
-module _ {A : Type 0} (test : A → Bool) (xs : List A) (i : ℕ) (d : A) {x : A} (h : i < length xs) (e : get_or xs i d ≡ x) where
-  pub all_more : test x ≡ true → all test (drop (i + 1) xs) ≡ all test (drop i xs)
-  all_more t = sym (ap (all test) (left_from xs i d h e) ∙ ap (λ b. b && all test (drop (i + 1) xs)) t)
-
-  pub all_fails : test x ≡ false → false ≡ all test (drop i xs)
-  all_fails t = sym (ap (all test) (left_from xs i d h e) ∙ ap (λ b. b && all test (drop (i + 1) xs)) t)
+use Rattle.model.specs.Bytes.{same_list}
 
 -- two lists through a function, place by place
 module _ {A B : Type 0} (f : A → B) (same : B → B → Bool) where

@@ -1,13 +1,10 @@
-use Rattle.std.proofs.Common.{◌≡◌, ◌-◌, length, get_or, pos, ◌+ℤ◌, sym, ◌∙◌, ap₂, arith, w64, SFits, to_z, of_z, rules}
+use Rattle.std.proofs.Common.{◌≡◌, ◌-◌, length, get_or, pos, ◌+ℤ◌, ◌∙◌, ap₂, arith, w64, SFits, to_z, of_z, rules}
 use lib.Signed.{lt_z}
 use mir.Syntax.{w128}
 use Rattle.std.proofs.lemmas.Int.{ints}
-use Rattle.std.proofs.lemmas.Bool.{ltb-true, ltb-false, eqb-true}
-use Rattle.dialect.proofs.Early.{no_entry, early_none, early_last}
+use Rattle.std.proofs.lemmas.Bool.{ltb-false}
+use Rattle.dialect.proofs.Early.{no_entry, early_last}
 use Rattle.dialect.proofs.time.too_early.Goals as goal
-
-pub returns-in-empty : goal.returns-in-empty
-returns-in-empty c = sym (early_none c.args.timestamp_ms c.args.log.now (omega (arith, ltb-true, eqb-true)))
 
 pub returns-in-len1-up : goal.returns-in-len1-up
 returns-in-len1-up c =

@@ -1,7 +1,6 @@
-use Rattle.std.proofs.Common.{◌≡◌, ◌<◌, Bool, length, take, sym, ap, ◌∙◌, arith, w32, rules}
+use Rattle.std.proofs.Common.{◌≡◌, ◌<◌, Bool, length, sym, ap, ◌∙◌, arith, w32, rules}
 use Rattle.std.proofs.lemmas.Int.{to_z-of_z}
-use Rattle.expiry.specs.Expiry.{keeps_id, kept_of, over_front}
-use Rattle.std.proofs.lemmas.List.{take_min}
+use Rattle.expiry.specs.Expiry.{keeps_id}
 use Rattle.expiry.proofs.Fronts.{count_yes, front_yes, count_no, front_no}
 use Rattle.expiry.proofs.expire.keep_in_front.Goals as goal
 use Rattle.expiry.proofs.expire.keep_in_front.Goals.{then-keeps, else-keeps}
@@ -26,13 +25,3 @@ loop-i-preserved g c =
         w.slots-is ∙ front_no q xs c.loop-i.slots c.loop-i.i c.loop-i.count y h inv.0 inv.1 inv.2 c.index-slots-i.is (is ∙ w.if-keeps.false),
       )
     ]
-
-pub returns : goal.returns
-returns g c =
-    let xs = c.args.slots.now in
-    let f = g.T.Identified.named in
-    let all : take c.loop-i.i xs ≡ take c.args.held xs = ap (λ n. take n xs) (omega (arith, c.loop-i.auto.i-end, c.loop-i-test.false, c.min-i-end.ensures)) ∙ take_min c.args.held xs in
-    record {
-      count = c.loop-i.invariant.1 ∙ ap (λ l. length (kept_of f c.args.kept l)) all;
-      front = c.loop-i.invariant.2 ∙ ap (λ l. over_front (kept_of f c.args.kept l) xs) all;
-    }
