@@ -1,6 +1,8 @@
 -- What a statement did, in the words that are printed. Assumes nothing.
-use Rattle.std.specs.Prelude.{ℕ, List, ◌++◌, codes}
-use Rattle.std.specs.Fmt.{signed_decimal}
+use Rattle.std.specs.Prelude.{ℕ, List, ◌++◌, codes, Result, Ok, Err}
+use Rattle.std.specs.Fmt.{decimal, signed_decimal}
+use Rattle.fault.specs.Meaning.{fault_of, shown}
+use Rattle.fault.specs.declared.fault.Fault.{Fault}
 use Rattle.audit.specs.declared.outcome.Done.{Done}
 use Rattle.audit.specs.declared.outcome.Done.TheVariants.{Accepted, Schema, Version, NotRun}
 
@@ -10,3 +12,12 @@ done_words Accepted = codes "accepted"
 done_words (Schema i) = codes "schema " ++ signed_decimal i
 done_words (Version i) = codes "version " ++ signed_decimal i
 done_words NotRun = codes "not run"
+
+-- what a statement did, or refused NUMBER LETTER POSITION
+abbrev pub outcome_words : Result Done Fault → List ℕ
+outcome_words (Ok done) = done_words done
+outcome_words (Err fault) = codes "refused " ++ shown (fault_of fault)
+
+-- # line N: STATEMENT: what it did
+abbrev pub outcome_line : ℕ → List ℕ → Result Done Fault → List ℕ
+outcome_line number statement outcome = codes "# line " ++ decimal number ++ codes ": " ++ statement ++ codes ": " ++ outcome_words outcome ++ codes "\n"

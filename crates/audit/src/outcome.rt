@@ -1,3 +1,6 @@
+ghost use Rattle.print.specs.Printing.{Prints};
+ghost use Rattle.audit.specs.Words.{outcome_line};
+
 use fault::fault::Fault;
 use print::print::Printer;
 use std::alloc::AllocError;
@@ -35,7 +38,9 @@ pub fn print_outcome(
     number: usize,
     statement: &str,
     outcome: Result<Done, Fault>,
-) -> Result<(), AllocError> {
+) -> Result<(), AllocError>
+    ensures { Prints printer.old result printer.new (outcome_line number statement.now outcome) }
+{
     write!(printer, "# line {number}: {statement}: ")?;
     match outcome {
         Ok(done) => writeln!(printer, "{done}"),
