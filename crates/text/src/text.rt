@@ -45,11 +45,13 @@ impl Text {
     }
 
     // Its bytes; of a text that reaches outside the block, those inside.
+    // Kept: clipped by `min`, since each look at a property asks it; by `get` a look-up takes up to twice the time.
     pub fn bytes<'t>(&self, block: &'t [u8]) -> &'t [u8]
         ensures { result.now ≡ bytes_of block.now self.now }
     {
-        let rest = block.get(self.place..).unwrap_or(&[]);
-        rest.get(..self.length).unwrap_or(rest)
+        let start = self.place.min(block.len());
+        let rest = &block[start..];
+        &rest[0..self.length.min(rest.len())]
     }
 
     // The same bytes as the other.
@@ -65,10 +67,11 @@ impl Text {
         ensures place { result.place ≡ self.now.place }
         ensures length { result.length ≡ length (trimmed (bytes_of block.now self.now)) }
     {
-        let from_the_end = self.bytes(block).iter().rev();
+        let bytes = self.bytes(block);
+        let slashes = bytes.iter().rev().take_while(|b| **b == b'/');
         Text {
             place: self.place,
-            length: from_the_end.skip_while(|b| **b == b'/').count(),
+            length: bytes.len() - slashes.count(),
         }
     }
 }
