@@ -1,1 +1,3 @@
+pub mod Folded
 pub mod Readings
+pub mod Table

@@ -1,23 +1,44 @@
-ghost use Rattle.std.specs.Prelude.{◌≡◌};
-ghost use Rattle.model.specs.Numbers.{signed_reading, unsigned_reading};
+ghost use Rattle.std.specs.Prelude.{◌≡◌, ◌-◌, ◌^◌, [], ◌∷◌};
+ghost use Rattle.model.specs.Numbers.{digits, numeral, at_most, signed_reading, unsigned_reading};
 
-use std::str::from_utf8;
+// The number n with one more digit; none where b is no digit, or the number is past the limit.
+fn with_digit(n: u64, b: u8) -> Option<u64>
+    ensures { result ≡ at_most (2 ^ 64 - 1) (digits n (b ∷ [])) }
+{
+    match b {
+        b'0'..=b'9' => n.checked_mul(10)?.checked_add(u64::from(b - b'0')),
+        _ => None,
+    }
+}
+
+// The number that the digits make; none where there is no digit, or another byte, or the number is past the limit.
+fn numeral(bytes: &[u8]) -> Option<u64>
+    ensures { result ≡ at_most (2 ^ 64 - 1) (numeral bytes.now) }
+{
+    if bytes.is_empty() {
+        return None;
+    }
+    bytes.iter().try_fold(0, |n, b| with_digit(n, *b))
+}
 
 // The number that a text writes with one sign or none before its digits.
-#[tactic(auto, using(crate::proofs::Readings::signed_same, crate::proofs::Readings::signed_none))]
 pub fn signed_reading(bytes: &[u8]) -> Option<i64>
     ensures { result ≡ signed_reading bytes.now }
 {
-    from_utf8(bytes).ok()?.parse::<i64>().ok()
+    match bytes {
+        [b'-', digits @ ..] => 0i64.checked_sub_unsigned(numeral(digits)?),
+        _ => i64::try_from(unsigned_reading(bytes)?).ok(),
+    }
 }
 
 // The number that a text writes with one plus or none before its digits.
-// Kept: beside signed_reading; one function over the type would promise only what `FromStr` says.
-#[tactic(auto, using(crate::proofs::Readings::unsigned_same, crate::proofs::Readings::unsigned_none))]
 pub fn unsigned_reading(bytes: &[u8]) -> Option<u64>
     ensures { result ≡ unsigned_reading bytes.now }
 {
-    from_utf8(bytes).ok()?.parse::<u64>().ok()
+    match bytes {
+        [b'+', digits @ ..] => numeral(digits),
+        _ => numeral(bytes),
+    }
 }
 
 #[cfg(test)]
