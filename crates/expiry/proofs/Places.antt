@@ -1,7 +1,8 @@
 -- Counting the higher ids, the lowest that has a place, and what is kept by it. Assumes nothing.
-use Rattle.std.proofs.Common.{◌≡◌, ℕ, ◌-◌, ◌<◌, ◌≤◌, Bool, true, false, cond, ◌||◌, eqb, ltb, ◌⊎◌, List, [], ◌∷◌, map, ℤ, Some, None, filter, Option, sym, refl, ap, ◌∙◌, subst, ap₂, inl, inr, arith}
+use Rattle.std.proofs.Common.{◌≡◌, ℕ, ◌-◌, ◌<◌, ◌≤◌, Bool, true, false, cond, not, ◌&&◌, ◌||◌, eqb, ltb, ◌⊎◌, List, [], ◌∷◌, map, ℤ, Some, None, filter, Option, sym, refl, ap, ◌∙◌, subst, ap₂, inl, inr, arith}
 use lib.Signed.{lt_z, le_z}
-use Rattle.std.specs.List.{AllByRecursion}
+use Rattle.std.specs.Int.{int_min}
+use Rattle.std.specs.List.{AllByRecursion, fold}
 use Rattle.std.proofs.ByRecursion.{All-weaker}
 use Rattle.std.proofs.lemmas.Bool.Decides.{same_from_decides}
 use Rattle.std.proofs.lemmas.Int.{ints}
@@ -81,3 +82,48 @@ keeps_stays f xs current n added k c e =
     All-weaker (λ v. at_least (lowest_placed f xs places) (f v) ≡ has_place (map f xs) places (f v)) (λ v. keeps_id k (f v) ≡ id_stays (map f xs) current n added (f v))
     (λ v d. ap₂ (λ i m. same_number (f v) i || at_least m (f v)) c e ∙ ap (λ b. same_number (f v) current || b) d)
     xs (lowest_decides f (λ v. has_place (map f xs) places (f v)) (λ x y l t. place_above (map f xs) places (f x) (f y) l t) xs)
+
+-- the best so far, or the lowest of the others where that is lower
+abbrev lower : Option ℤ → Option ℤ → Option ℤ
+lower None m = m
+lower (Some j) m = Some (least_of j m)
+
+lower_none : (best : Option ℤ) → best ≡ lower best None
+lower_none None = refl
+lower_none (Some j) = refl
+
+least_kept : (j i : ℤ) (m : Option ℤ) → le_z j i ≡ true → least_of j m ≡ int_min j (least_of i m)
+least_kept j i None h = grind (arith, ints)
+least_kept j i (Some k) h = grind (arith, ints)
+
+least_taken : (j i : ℤ) (m : Option ℤ) → le_z j i ≡ false → least_of i m ≡ int_min j (least_of i m)
+least_taken j i None h = grind (arith, ints)
+least_taken j i (Some k) h = grind (arith, ints)
+
+-- a fold in which the best so far gives way to a lower one that passes
+module _ (test : ℤ → Bool) where
+  abbrev pub better : Option ℤ → ℤ → Option ℤ
+  better best i = cond (not (at_least best i) && test i) (Some i) best
+
+  better_lower : (best : Option ℤ) (i : ℤ) (m : Option ℤ) → lower (better best i) m ≡ lower best (cond (test i) (Some (least_of i m)) m)
+  better_lower None i m = go (test i)
+    where
+      go : (b : Bool) → lower (cond b (Some i) None) m ≡ cond b (Some (least_of i m)) m
+      go true = refl
+      go false = refl
+  better_lower (Some j) i m = go (le_z j i) (test i) refl
+    where
+      go : (l b : Bool) → le_z j i ≡ l → lower (cond (not l && b) (Some i) (Some j)) m ≡ lower (Some j) (cond b (Some (least_of i m)) m)
+      go true true h = ap Some (least_kept j i m h)
+      go true false h = refl
+      go false true h = ap Some (least_taken j i m h)
+      go false false h = refl
+
+  pub lowest_by_turns : {A : Type 0} (f : A → ℤ) (best : Option ℤ) (xs : List A) → fold better best (map f xs) ≡ lower best (lowest_id_where f (λ x. test (f x)) xs)
+  lowest_by_turns f best [] = lower_none best
+  lowest_by_turns f best (x ∷ xs) =
+      lowest_by_turns f (better best (f x)) xs ∙ better_lower best (f x) (lowest_id_where f (λ y. test (f y)) xs) ∙ go (test (f x))
+    where
+      go : (b : Bool) → lower best (cond b (Some (least_of (f x) (lowest_id_where f (λ y. test (f y)) xs))) (lowest_id_where f (λ y. test (f y)) xs)) ≡ lower best (lowest (map f (cond b (x ∷ filter (λ y. test (f y)) xs) (filter (λ y. test (f y)) xs))))
+      go true = refl
+      go false = refl

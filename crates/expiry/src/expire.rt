@@ -30,10 +30,17 @@ fn at_least(lowest: Option<i32>, id: i32) -> bool
 }
 
 // How many of the versions have a higher id.
+// Kept: a loop over a slice is vectorised, and a chain that counts or sums is not; this runs once for each id that may have a place.
 fn higher<T: Identified>(items: &[T], id: i32) -> usize
     ensures { result ≡ higher_than (map T.Identified.named items.now) id }
 {
-    items.iter().filter(|v| v.id() > id).count()
+    let mut count = 0;
+    for v in items {
+        if v.id() > id {
+            count += 1;
+        }
+    }
+    count
 }
 
 // How many of the versions stay by their rank: the last place is left to a current version that has none.
@@ -48,15 +55,17 @@ fn places<T: Identified>(items: &[T], current: i32, size: u64, added: usize) -> 
     }
 }
 
-// The lowest id that has a place.
+// The lowest id that has a place; the best so far is asked first, since a place costs a count over all.
 fn lowest_placed<T: Identified>(items: &[T], places: u64) -> Option<i32>
     ensures { result ≡ lowest_placed T.Identified.named items.now places }
 {
-    items
-        .iter()
-        .filter(|v| (higher(items, v.id()) as u64) < places)
-        .map(|v| v.id())
-        .min()
+    items.iter().map(|v| v.id()).fold(None, |best, id| {
+        if !at_least(best, id) && (higher(items, id) as u64) < places {
+            Some(id)
+        } else {
+            best
+        }
+    })
 }
 
 // The versions that do not expire.
