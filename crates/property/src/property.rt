@@ -45,6 +45,13 @@ pub struct PropertyFault {
     pub position: usize,
 }
 
+// What updates would do: how many bring a new key, and whether one brings another value.
+#[derive(Clone, Copy)]
+struct Effect {
+    new_keys: usize,
+    changes: bool,
+}
+
 // More updates than one call may bring, or more properties than there is room for.
 const TOO_MANY: PropertyFault = PropertyFault {
     refusal: PropertyRefusal::TooMany,
@@ -128,24 +135,25 @@ impl<'a> Properties<'a> {
             .map(|q| q.value.bytes(block))
     }
 
-    // How many of the updates bring a new key.
-    fn new_keys(&self, updates: &[Property], block: &[u8]) -> usize
-        ensures { result ≡ count_by (λ p. is_none (look_up (bytes_of block.now p.key) (properties_of block.now self.now))) updates.now }
+    // What the updates would do, each key looked up once.
+    fn effect(&self, updates: &[Property], block: &[u8]) -> Effect
+        ensures new_keys { result.new_keys ≡ count_by (λ p. is_none (look_up (bytes_of block.now p.key) (properties_of block.now self.now))) updates.now }
+        ensures changes { result.changes ≡ list_any (λ p. not (same_text (look_up (bytes_of block.now p.key) (properties_of block.now self.now)) (Some (bytes_of block.now p.value)))) updates.now }
     {
-        updates
-            .iter()
-            .filter(|p| self.look_up(p.key.bytes(block), block).is_none())
-            .count()
-    }
-
-    // Whether one of the updates brings a value other than the one that its key has.
-    fn changes(&self, updates: &[Property], block: &[u8]) -> bool
-        ensures { result ≡ list_any (λ p. not (same_text (look_up (bytes_of block.now p.key) (properties_of block.now self.now)) (Some (bytes_of block.now p.value)))) updates.now }
-    {
-        updates.iter().any(|p| {
+        let mut effect = Effect {
+            new_keys: 0,
+            changes: false,
+        };
+        for p in updates {
             let held = self.look_up(p.key.bytes(block), block);
-            held != Some(p.value.bytes(block))
-        })
+            if held.is_none() {
+                effect.new_keys += 1;
+            }
+            if held != Some(p.value.bytes(block)) {
+                effect.changes = true;
+            }
+        }
+        effect
     }
 
     // The place of the first property with the key.
@@ -190,10 +198,11 @@ impl<'a> Properties<'a> {
         ensures { answered (λ changes. changes) result ≡ planned block.now updates.now self.now }
     {
         check(updates, block)?;
-        if self.new_keys(updates, block) > self.table.slots.len() - self.items().len() {
+        let effect = self.effect(updates, block);
+        if effect.new_keys > self.table.slots.len() - self.items().len() {
             return Err(TOO_MANY);
         }
-        Ok(self.changes(updates, block))
+        Ok(effect.changes)
     }
 
     // Sets the properties, one after another; a refusal writes nothing.
