@@ -32,7 +32,8 @@ impl fmt::Display for Done {
 }
 
 // # line N: STATEMENT: what it did, or refused NUMBER LETTER POSITION
-// Kept: the printer is handed to each function of this crate; a struct around it would hold nothing else.
+// Kept: the printer is handed to each function of this crate; a struct around it would hold nothing else. Fixed words go out as they
+// are, since a line is printed for each statement, and `write!` of the whole takes twice the steps.
 pub fn print_outcome(
     printer: &mut Printer<'_>,
     number: usize,
@@ -41,9 +42,14 @@ pub fn print_outcome(
 ) -> Result<(), AllocError>
     ensures { Prints printer.old result printer.new (outcome_line number statement.now outcome) }
 {
-    write!(printer, "# line {number}: {statement}: ")?;
+    printer.words("# line ")?;
+    write!(printer, "{number}")?;
+    printer.words(": ")?;
+    printer.words(statement)?;
     match outcome {
-        Ok(done) => writeln!(printer, "{done}"),
-        Err(fault) => writeln!(printer, "refused {fault}"),
+        Ok(Done::Accepted) => printer.words(": accepted\n"),
+        Ok(Done::NotRun) => printer.words(": not run\n"),
+        Ok(done) => writeln!(printer, ": {done}"),
+        Err(fault) => writeln!(printer, ": refused {fault}"),
     }
 }

@@ -1,3 +1,6 @@
+ghost use Rattle.print.specs.Printing.{Prints};
+ghost use Rattle.audit.specs.Words.{metadata_lines};
+
 use print::print::Printer;
 use schema::sealed::SealedSchema;
 use std::alloc::AllocError;
@@ -73,7 +76,9 @@ fn print_changes(
 fn print_lists(
     printer: &mut Printer<'_>,
     metadata: &ViewMetadata<'_, '_, SealedSchema>,
-) -> Result<(), AllocError> {
+) -> Result<(), AllocError>
+    ensures { Prints printer.old result printer.new (metadata_lines printer.old.block.now metadata.now) }
+{
     printer.lines("", metadata.schemas)?;
     printer.lines("", metadata.versions)?;
     printer.lines("", metadata.version_log)?;

@@ -1,10 +1,12 @@
+ghost use Rattle.std.specs.Prelude.{◌≡◌, ◌++◌};
+
 use super::outcome::{Done, print_outcome};
 use super::report::print_built;
 use fault::fault::Fault;
 use print::print::Printer;
 use schema::sealed::SealedSchema;
 use script::read::read_script;
-use script::script::{Line, Script, Statement};
+use script::script::{Line, Lists, Script, Statement};
 use std::alloc::{AllocError, Global};
 use text::property::Property;
 use text::text::Text;
@@ -19,16 +21,23 @@ use view::view_update::ViewUpdate;
 type Builder<'s, 'a> = ViewMetadataBuilder<'s, 'a, 's, SealedSchema>;
 
 // What a statement does to the builder.
-fn run_edit<'s>(builder: &mut Builder<'s, '_>, statement: &'s Statement) -> Result<Done, Fault> {
+fn run_edit<'s>(
+    builder: &mut Builder<'s, '_>,
+    statement: Statement,
+    lists: &'s Lists,
+) -> Result<Done, Fault> {
     let done = match statement {
         Statement::SetLocation { location } => {
-            builder.set_location(*location)?;
+            builder.set_location(location)?;
             Done::Accepted
         }
-        Statement::AddSchema { schema } => Done::Schema(builder.add_schema(*schema)?),
-        Statement::AddVersion { version } => Done::Version(builder.add_version(version.version())?),
+        Statement::AddSchema { schema } => Done::Schema(builder.add_schema(schema)?),
+        Statement::AddVersion { version } => {
+            let version = version.version(lists);
+            Done::Version(builder.add_version(version)?)
+        }
         Statement::SetCurrent { version_id, clock } => {
-            builder.set_current_version_id(*version_id, *clock)?;
+            builder.set_current_version_id(version_id, clock)?;
             Done::Accepted
         }
         Statement::SetCurrentVersion {
@@ -36,11 +45,11 @@ fn run_edit<'s>(builder: &mut Builder<'s, '_>, statement: &'s Statement) -> Resu
             version,
             clock,
         } => {
-            builder.set_current_version(*schema, version.version(), *clock)?;
+            builder.set_current_version(schema, version.version(lists), clock)?;
             Done::Accepted
         }
         Statement::SetProperties { updates } => {
-            builder.set_properties(updates.as_slice())?;
+            builder.set_properties(updates.part(lists.properties.as_slice()))?;
             Done::Accepted
         }
         Statement::Begin { .. } | Statement::Build => Done::NotRun,
@@ -49,7 +58,9 @@ fn run_edit<'s>(builder: &mut Builder<'s, '_>, statement: &'s Statement) -> Resu
 }
 
 // The lines before the first build, and those from it on.
-fn split_at_build(lines: &[Line]) -> (&[Line], &[Line]) {
+fn split_at_build(lines: &[Line]) -> (&[Line], &[Line])
+    ensures { result.0.now ++ result.1.now ≡ lines.now }
+{
     let build = lines
         .iter()
         .position(|line| matches!(line.statement, Statement::Build));
@@ -59,11 +70,12 @@ fn split_at_build(lines: &[Line]) -> (&[Line], &[Line]) {
 // Runs the statements before the first build.
 fn run_edits<'s>(
     builder: &mut Builder<'s, '_>,
-    lines: &'s [Line],
+    lines: &[Line],
+    lists: &'s Lists,
     printer: &mut Printer<'_>,
 ) -> Result<(), AllocError> {
     for line in lines {
-        let outcome = run_edit(builder, &line.statement);
+        let outcome = run_edit(builder, line.statement, lists);
         print_outcome(printer, line.number, line.statement.name(), outcome)?;
     }
     Ok(())
@@ -117,7 +129,8 @@ const NO_CHANGE: ViewUpdate<'static, SealedSchema> = ViewUpdate::SetCurrentViewV
 // Lends the tables, runs the statements after `begin` up to the first build, and prints what is built.
 fn run_begun<'s>(
     beginning: Beginning<'s>,
-    lines: &'s [Line],
+    lines: &[Line],
+    lists: &'s Lists,
     printer: &mut Printer<'_>,
 ) -> Result<(), AllocError> {
     let mut schemas = [NO_SCHEMA; MAX_SCHEMAS];
@@ -133,7 +146,7 @@ fn run_begun<'s>(
         &mut changes,
     );
     let (edits, rest) = split_at_build(lines);
-    run_edits(&mut builder, edits, printer)?;
+    run_edits(&mut builder, edits, lists, printer)?;
     let [build, after @ ..] = rest else {
         return Ok(());
     };
@@ -176,7 +189,7 @@ fn run_script(script: &Script, printer: &mut Printer<'_>) -> Result<(), AllocErr
                 first.statement.name(),
                 Ok(Done::Accepted),
             )?;
-            run_begun(beginning, rest, printer)
+            run_begun(beginning, rest, &script.lists, printer)
         }
         Err(fault) => print_outcome(printer, first.number, first.statement.name(), Err(fault)),
     }

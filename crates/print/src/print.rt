@@ -15,10 +15,12 @@ use text::text::Text;
 use version::view_version::{SqlViewRepresentation, ViewVersion, ViewVersionLog};
 
 // What has been printed, of records over a text block.
+// `shown` is where `write!` writes before its bytes join `out`: it keeps its memory from call to call.
 #[derive(Drop)]
 pub struct Printer<'b> {
     block: &'b [u8],
     out: Vec<u8>,
+    shown: String,
 }
 
 // What can stand in a list.
@@ -38,6 +40,7 @@ impl<'b> Printer<'b> {
         Printer {
             block,
             out: Vec::new(heap),
+            shown: String::new(heap),
         }
     }
 
@@ -61,8 +64,9 @@ impl<'b> Printer<'b> {
         ensures same { OnErr result (self.new.out.items ≡ self.old.out.items) }
         ensures block { self.new.block ≡ self.old.block }
     {
-        let text = format!(in *self.out.allocator(); "{shown}")?;
-        self.words(text.as_str())
+        self.shown.clear();
+        self.shown.write_fmt(shown)?;
+        self.out.extend_from_slice(self.shown.as_bytes())
     }
 
     // A text, in quotes.

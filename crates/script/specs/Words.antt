@@ -1,5 +1,6 @@
--- The words of a script. Assumes nothing.
-use Rattle.std.specs.Prelude.{ℕ, List, codes}
+-- The words and the lists of a script. Assumes nothing.
+use Rattle.std.specs.Prelude.{ℕ, List, codes, take, drop}
+use Rattle.script.specs.declared.script.Span.{Span}
 use Rattle.script.specs.declared.script.Statement.{Statement}
 use Rattle.script.specs.declared.script.Statement.TheVariants.{Begin, SetLocation, AddSchema, AddVersion, SetCurrent, SetCurrentVersion, SetProperties, Build}
 
@@ -13,3 +14,7 @@ first_word (SetCurrent _ _) = codes "set-current"
 first_word (SetCurrentVersion _ _ _) = codes "set-current-version"
 first_word (SetProperties _) = codes "set-properties"
 first_word Build = codes "build"
+
+-- the part of a list that a span names: so many elements from a place on
+abbrev pub part_of : {A : Type 0} → Span → List A → List A
+part_of s xs = take s.count (drop s.from xs)

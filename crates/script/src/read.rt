@@ -1,6 +1,6 @@
 ghost use Rattle.std.specs.Prelude.{◌≡◌, ◌+◌, length, IfOk, vec_len};
 
-use super::script::{Line, Script, Statement, Unread, VersionParts};
+use super::script::{Line, Lists, Script, Span, Statement, Unread, VersionParts};
 use cursor::cursor::Cursor;
 use cursor::fault::{Expected, ReadFault};
 use quote::read::read_quoted;
@@ -64,18 +64,20 @@ impl<'l, 'b> Reader<'l, 'b> {
         Ok((first, second))
     }
 
-    // A list; it has fewer elements than the line has bytes.
+    // A list: its elements go to the end of `held`. It has fewer elements than the line has bytes.
     // Kept: the count ends the loop; with `while` each reader would have to promise that it takes a byte of the line.
     // The cursor is borrowed first, since a call on a field of a struct that holds a reference is not covered.
-    fn list<T: Element>(&mut self) -> Result<Vec<T>, ReadFault> {
+    fn list<T: Element>(&mut self, held: &mut Vec<T>) -> Result<Span, ReadFault>
+        ensures { IfOk result (λ s. (s.from ≡ vec_len held.old) × (s.from + s.count ≡ vec_len held.new)) }
+    {
         self.cursor.expect("[")?;
-        let mut list = Vec::new(*self.block.allocator());
+        let from = held.len();
         let cursor = &mut self.cursor;
-        for _ in 0..cursor.length() {
+        for count in 0..cursor.length() {
             if self.cursor.takes("]") {
-                return Ok(list);
+                return Ok(Span { from, count });
             }
-            list.push(T::read(self)?)?;
+            held.push(T::read(self)?)?;
         }
         Err(ReadFault::Expected(Expected::ListEnd))
     }
@@ -107,7 +109,7 @@ impl<'l, 'b> Reader<'l, 'b> {
     }
 
     // version ID schema ID time MS summary [ TEXT = TEXT .. ] sql [ TEXT dialect TEXT .. ] catalog TEXT namespace [ TEXT .. ]
-    fn version(&mut self) -> Result<VersionParts, ReadFault> {
+    fn version(&mut self, lists: &mut Lists) -> Result<VersionParts, ReadFault> {
         self.cursor.expect("version")?;
         let version_id = self.cursor.id()?;
         self.cursor.expect("schema")?;
@@ -115,13 +117,13 @@ impl<'l, 'b> Reader<'l, 'b> {
         self.cursor.expect("time")?;
         let timestamp_ms = self.cursor.time()?;
         self.cursor.expect("summary")?;
-        let summary = self.list()?;
+        let summary = self.list(&mut lists.properties)?;
         self.cursor.expect("sql")?;
-        let representations = self.list()?;
+        let representations = self.list(&mut lists.representations)?;
         self.cursor.expect("catalog")?;
         let default_catalog = self.catalog()?;
         self.cursor.expect("namespace")?;
-        let default_namespace = self.list()?;
+        let default_namespace = self.list(&mut lists.names)?;
         Ok(VersionParts {
             version_id,
             schema_id,
@@ -152,9 +154,9 @@ impl<'l, 'b> Reader<'l, 'b> {
         Ok(Statement::SetCurrent { version_id, clock })
     }
 
-    fn set_current_version(&mut self) -> Result<Statement, ReadFault> {
+    fn set_current_version(&mut self, lists: &mut Lists) -> Result<Statement, ReadFault> {
         let schema = self.schema()?;
-        let version = self.version()?;
+        let version = self.version(lists)?;
         let clock = self.clock()?;
         Ok(Statement::SetCurrentVersion {
             schema,
@@ -164,7 +166,7 @@ impl<'l, 'b> Reader<'l, 'b> {
     }
 
     // The statement that the line begins with.
-    fn statement(&mut self) -> Result<Statement, ReadFault> {
+    fn statement(&mut self, lists: &mut Lists) -> Result<Statement, ReadFault> {
         match self.cursor.keyword() {
             "begin" => self.begin(),
             "set-location" => {
@@ -176,13 +178,13 @@ impl<'l, 'b> Reader<'l, 'b> {
                 Ok(Statement::AddSchema { schema })
             }
             "add-version" => {
-                let version = self.version()?;
+                let version = self.version(lists)?;
                 Ok(Statement::AddVersion { version })
             }
             "set-current" => self.set_current(),
-            "set-current-version" => self.set_current_version(),
+            "set-current-version" => self.set_current_version(lists),
             "set-properties" => {
-                let updates = self.list()?;
+                let updates = self.list(&mut lists.properties)?;
                 Ok(Statement::SetProperties { updates })
             }
             "build" => Ok(Statement::Build),
@@ -192,14 +194,17 @@ impl<'l, 'b> Reader<'l, 'b> {
 }
 
 // The statement of a line; none where the line is blank or a comment.
-fn read_line(line: &[u8], block: &mut Vec<u8>) -> Result<Option<Statement>, ReadFault> {
+fn read_line(line: &[u8], script: &mut Script) -> Result<Option<Statement>, ReadFault> {
     let line = line.strip_suffix(b"\r").unwrap_or(line);
     let mut cursor = Cursor::new(line);
     if line.starts_with(b"#") || cursor.rest().is_empty() {
         return Ok(None);
     }
-    let mut reader = Reader { cursor, block };
-    let statement = reader.statement()?;
+    let mut reader = Reader {
+        cursor,
+        block: &mut script.block,
+    };
+    let statement = reader.statement(&mut script.lists)?;
     reader.cursor.expect_end()?;
     Ok(Some(statement))
 }
@@ -208,7 +213,7 @@ fn read_line(line: &[u8], block: &mut Vec<u8>) -> Result<Option<Statement>, Read
 pub fn read_script(heap: Global, input: &[u8]) -> Result<Script, AllocError> {
     let mut script = Script::new(heap);
     for (number, line) in (1..).zip(input.split(|byte| *byte == b'\n')) {
-        match read_line(line, &mut script.block) {
+        match read_line(line, &mut script) {
             Ok(None) => {}
             Ok(Some(statement)) => script.statements.push(Line { number, statement })?,
             Err(ReadFault::NoMemory) => return Err(AllocError),

@@ -1,5 +1,5 @@
 ghost use Rattle.std.specs.Prelude.{◌≡◌, [], None};
-ghost use Rattle.script.specs.Words.{first_word};
+ghost use Rattle.script.specs.Words.{first_word, part_of};
 
 use cursor::fault::Expected;
 use schema::sealed::SealedSchema;
@@ -8,19 +8,26 @@ use text::property::Property;
 use text::text::Text;
 use version::view_version::{SqlViewRepresentation, ViewVersion};
 
-// A version as the script has it, with lists of its own.
-#[derive(Drop)]
+// A part of one of the script's lists.
+#[derive(Clone, Copy)]
+pub struct Span {
+    pub from: usize,
+    pub count: usize,
+}
+
+// A version as the script has it: its lists are parts of the script's own.
+#[derive(Clone, Copy)]
 pub struct VersionParts {
     pub version_id: i32,
     pub schema_id: i32,
     pub timestamp_ms: i64,
-    pub summary: Vec<Property>,
-    pub representations: Vec<SqlViewRepresentation>,
+    pub summary: Span,
+    pub representations: Span,
     pub default_catalog: Option<Text>,
-    pub default_namespace: Vec<Text>,
+    pub default_namespace: Span,
 }
 
-#[derive(Drop)]
+#[derive(Clone, Copy)]
 pub enum Statement {
     Begin {
         format: u32,
@@ -45,13 +52,13 @@ pub enum Statement {
         clock: i64,
     },
     SetProperties {
-        updates: Vec<Property>,
+        updates: Span,
     },
     Build,
 }
 
 // A statement and the number of its line, counted from 1.
-#[derive(Drop)]
+#[derive(Clone, Copy)]
 pub struct Line {
     pub number: usize,
     pub statement: Statement,
@@ -64,13 +71,37 @@ pub struct Unread {
     pub expected: Expected,
 }
 
-// A script that was read: its statements, up to the first line that could not be read, and the block of the texts that they name.
-// Kept: the texts share one block, since the library reads a text as a place in a block that is lent to it.
+// The lists of the statements, end to end.
+#[derive(Drop)]
+pub struct Lists {
+    pub properties: Vec<Property>,
+    pub representations: Vec<SqlViewRepresentation>,
+    pub names: Vec<Text>,
+}
+
+// A script that was read: its statements, up to the first line that could not be read, the lists that they name parts of, and the block of the texts.
+// Kept: the texts share one block, since the library reads a text as a place in a block that is lent to it; and statements of a kind share a list, so that a statement is `Copy` and takes no memory of its own.
 #[derive(Drop)]
 pub struct Script {
     pub block: Vec<u8>,
+    pub lists: Lists,
     pub statements: Vec<Line>,
     pub unread: Option<Unread>,
+}
+
+impl Lists {
+    // Nothing listed yet.
+    fn new(heap: Global) -> Lists
+        ensures properties { result.properties.items ≡ [] }
+        ensures representations { result.representations.items ≡ [] }
+        ensures names { result.names.items ≡ [] }
+    {
+        Lists {
+            properties: Vec::new(heap),
+            representations: Vec::new(heap),
+            names: Vec::new(heap),
+        }
+    }
 }
 
 impl Script {
@@ -82,31 +113,42 @@ impl Script {
     {
         Script {
             block: Vec::new(heap),
+            lists: Lists::new(heap),
             statements: Vec::new(heap),
             unread: None,
         }
     }
 }
 
+impl Span {
+    // The part of a list; of one that reaches outside, what is inside.
+    pub fn part<'s, T>(&self, items: &'s [T]) -> &'s [T]
+        ensures { result.now ≡ part_of self.now items.now }
+    {
+        let rest = items.get(self.from..).unwrap_or(&[]);
+        rest.get(..self.count).unwrap_or(rest)
+    }
+}
+
 impl VersionParts {
-    // The version, its lists lent from the parts.
-    pub fn version(&self) -> ViewVersion<'_>
+    // The version over the script's lists.
+    pub fn version<'s>(&self, lists: &'s Lists) -> ViewVersion<'s>
         ensures id { result.version_id ≡ self.now.version_id }
         ensures schema { result.schema_id ≡ self.now.schema_id }
         ensures time { result.timestamp_ms ≡ self.now.timestamp_ms }
-        ensures summary { result.summary.now ≡ self.now.summary.items }
-        ensures representations { result.representations.now ≡ self.now.representations.items }
+        ensures summary { result.summary.now ≡ part_of self.now.summary lists.now.properties.items }
+        ensures representations { result.representations.now ≡ part_of self.now.representations lists.now.representations.items }
         ensures catalog { result.default_catalog ≡ self.now.default_catalog }
-        ensures namespace { result.default_namespace.now ≡ self.now.default_namespace.items }
+        ensures namespace { result.default_namespace.now ≡ part_of self.now.default_namespace lists.now.names.items }
     {
         ViewVersion {
             version_id: self.version_id,
             schema_id: self.schema_id,
             timestamp_ms: self.timestamp_ms,
-            summary: self.summary.as_slice(),
-            representations: self.representations.as_slice(),
+            summary: self.summary.part(lists.properties.as_slice()),
+            representations: self.representations.part(lists.representations.as_slice()),
             default_catalog: self.default_catalog,
-            default_namespace: self.default_namespace.as_slice(),
+            default_namespace: self.default_namespace.part(lists.names.as_slice()),
         }
     }
 }
