@@ -136,6 +136,7 @@ impl<'a> Properties<'a> {
     }
 
     // What the updates would do, each key looked up once.
+    // Kept: a loop; a chain for each of the two questions looks each key up twice.
     fn effect(&self, updates: &[Property], block: &[u8]) -> Effect
         ensures new_keys { result.new_keys ≡ count_by (λ p. is_none (look_up (bytes_of block.now p.key) (properties_of block.now self.now))) updates.now }
         ensures changes { result.changes ≡ list_any (λ p. not (same_text (look_up (bytes_of block.now p.key) (properties_of block.now self.now)) (Some (bytes_of block.now p.value)))) updates.now }

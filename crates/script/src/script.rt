@@ -122,6 +122,7 @@ impl Script {
 
 impl Span {
     // The part of a list; of one that reaches outside, what is inside.
+    // Kept: beside the bytes of a text, which are a part of the block; this is a part of a list of any type.
     pub fn part<'s, T>(&self, items: &'s [T]) -> &'s [T]
         ensures { result.now ≡ part_of self.now items.now }
     {
