@@ -33,7 +33,7 @@ impl fmt::Display for Done {
 
 // # line N: STATEMENT: what it did, or refused NUMBER LETTER POSITION
 // Kept: the printer is handed to each function of this crate; a struct around it would hold nothing else. Fixed words go out as they
-// are, since a line is printed for each statement, and `write!` of the whole takes twice the steps.
+// are, since a line is printed for each statement, and `write!` writes its words twice, into a text and then out.
 pub fn print_outcome(
     printer: &mut Printer<'_>,
     number: usize,
